@@ -1,0 +1,7 @@
+pub mod Reading
+pub mod Forms
+pub mod Sound
+pub mod Bads
+pub mod Complete
+pub mod Refusals
+pub mod Forming

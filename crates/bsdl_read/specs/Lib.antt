@@ -1,0 +1,9 @@
+pub mod Words
+pub mod Structure
+pub mod Grammar
+pub mod Contents
+pub mod Opcodes
+pub mod Patterns
+pub mod Accesses
+pub mod Reading
+pub mod Laws

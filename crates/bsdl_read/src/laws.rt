@@ -1,0 +1,14 @@
+// Laws of what is read.
+ghost use Rattle.bsdl_read.specs.Laws as l;
+
+/// The tokens of a text have a structure exactly where they are a file by its parts: `entity NAME is`, items, and `end NAME ;`, where an
+/// item that is read is `attribute X of NAME : entity is VALUE ;` with each of the seven names at most once.
+pub fn files_have_parts()
+    ensures { l.FilesHaveParts }
+{}
+
+/// Every text either says an entity or is refused, and never both.
+pub fn entity_or_refusal()
+    ensures one { l.OneOfBoth }
+    ensures never_both { l.NeverBoth }
+{}

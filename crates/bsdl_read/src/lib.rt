@@ -1,0 +1,16 @@
+//! Device types out of BSDL texts (IEEE 1149.1, Annex B).
+#![tactic(auto)]
+
+mod accesses;
+mod contents;
+mod laws;
+mod opcodes;
+mod patterns;
+mod read;
+mod structure;
+#[cfg(test)]
+mod tests;
+mod words;
+
+pub use laws::{entity_or_refusal, files_have_parts};
+pub use read::{BsdlRefusal, Entity, read_part};

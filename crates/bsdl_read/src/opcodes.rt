@@ -1,0 +1,187 @@
+// The content of INSTRUCTION_OPCODE.
+ghost use Rattle.std.specs.Prelude.{◌≡◌, ◌<◌, true, length, OnOk, IfOk, Ok};
+ghost use Rattle.bsdl_lex.specs.Tokens as t;
+ghost use Rattle.bsdl_lex.specs.Tokens.{SpansRise};
+ghost use Rattle.part_model.specs.Plans as plans;
+ghost use Rattle.bsdl_read.specs.Contents as c;
+ghost use Rattle.bsdl_read.specs.Opcodes as o;
+
+use crate::contents::{
+    ContentFault, add_letter, departs_unless, digit_of, inside, is_pattern_digit, is_space,
+};
+use base_types::{Items, Text};
+use bsdl_lex::{Token, in_word, is_letter};
+use part_model::{Digit, Opcode, Pattern};
+use std::alloc::Global;
+use std::mem;
+
+// What may come next.
+#[derive(Clone, Copy)]
+pub enum OpcodeStage {
+    Entry,
+    Name,
+    Named,
+    Pattern,
+    Digits,
+    Joined,
+    Closed,
+}
+
+// Whole entries, and the parts of the one that is open.
+#[derive(Drop)]
+pub struct OpcodeReading {
+    pub stage: OpcodeStage,
+    pub done: Vec<Opcode>,
+    pub name: String,
+    pub patterns: Vec<Pattern>,
+    pub digits: Vec<Digit>,
+}
+
+impl OpcodeReading {
+    fn to(&mut self, stage: OpcodeStage) -> Result<(), ContentFault>
+        ensures { c.Steps (o.view self.new) result (Ok (o.at_stage (o.view self.old) stage)) }
+    {
+        self.stage = stage;
+        Ok(())
+    }
+
+    fn letter(&mut self, byte: u8) -> Result<(), ContentFault>
+        requires { t.in_word byte ≡ true }
+        ensures { c.Steps (o.view self.new) result (Ok (o.with_letter (o.view self.old) byte)) }
+    {
+        self.stage = OpcodeStage::Name;
+        add_letter(&mut self.name, byte)?;
+        Ok(())
+    }
+
+    fn digit(&mut self, byte: u8) -> Result<(), ContentFault>
+        ensures { c.Steps (o.view self.new) result (Ok (o.with_digit (o.view self.old) byte)) }
+    {
+        self.stage = OpcodeStage::Digits;
+        self.digits.push(digit_of(byte))?;
+        Ok(())
+    }
+
+    // A pattern ends, and another is due.
+    fn pattern(&mut self, alloc: Global) -> Result<(), ContentFault>
+        ensures { c.Steps (o.view self.new) result (Ok (o.with_pattern (o.view self.old))) }
+    {
+        self.stage = OpcodeStage::Pattern;
+        let mut digits = mem::replace(&mut self.digits, Vec::new(alloc));
+        digits.reverse();
+        self.patterns.push(Pattern {
+            digits: Items::from_vec(digits),
+        })?;
+        Ok(())
+    }
+
+    // An entry ends with its last pattern.
+    fn entry(&mut self, alloc: Global) -> Result<(), ContentFault>
+        ensures { c.Steps (o.view self.new) result (Ok (o.with_entry (o.view self.old))) }
+    {
+        self.pattern(alloc)?;
+        self.stage = OpcodeStage::Closed;
+        let name = mem::replace(&mut self.name, String::new(alloc));
+        let patterns = mem::replace(&mut self.patterns, Vec::new(alloc));
+        self.done.push(Opcode {
+            name: Text::from_string(name),
+            patterns: Items::from_vec(patterns),
+        })?;
+        Ok(())
+    }
+
+    fn behind_name(&mut self, byte: u8) -> Result<(), ContentFault>
+        ensures { c.Steps (o.view self.new) result (o.behind_name (o.view self.old) byte) }
+    {
+        if is_space(byte) {
+            return self.to(OpcodeStage::Named);
+        }
+        if byte == b'(' {
+            return self.to(OpcodeStage::Pattern);
+        }
+        Err(ContentFault::Departs(8))
+    }
+
+    fn behind_pattern(&mut self, alloc: Global, byte: u8) -> Result<(), ContentFault>
+        ensures { c.Steps (o.view self.new) result (o.behind_pattern (o.view self.old) byte) }
+    {
+        if is_space(byte) {
+            return self.to(OpcodeStage::Joined);
+        }
+        if byte == b',' {
+            return self.pattern(alloc);
+        }
+        if byte == b')' {
+            return self.entry(alloc);
+        }
+        Err(ContentFault::Departs(8))
+    }
+
+    // One more byte of the content.
+    fn byte(&mut self, alloc: Global, byte: u8) -> Result<(), ContentFault>
+        ensures { c.Steps (o.view self.new) result (o.next_byte (o.view self.old) byte) }
+    {
+        match self.stage {
+            OpcodeStage::Entry if is_letter(byte) => self.letter(byte),
+            OpcodeStage::Name if in_word(byte) => self.letter(byte),
+            OpcodeStage::Name | OpcodeStage::Named => self.behind_name(byte),
+            OpcodeStage::Pattern | OpcodeStage::Digits if is_pattern_digit(byte) => self.digit(
+                byte,
+            ),
+            OpcodeStage::Digits | OpcodeStage::Joined => self.behind_pattern(alloc, byte),
+            OpcodeStage::Closed if byte == b',' => self.to(OpcodeStage::Entry),
+            OpcodeStage::Entry | OpcodeStage::Pattern | OpcodeStage::Closed => departs_unless(
+                is_space(byte),
+            ),
+        }
+    }
+
+    // The bytes of one text of the content.
+    fn bytes(&mut self, alloc: Global, bytes: &[u8]) -> Result<(), ContentFault>
+        ensures { c.Steps (o.view self.new) result (c.through o.next_byte (o.view self.old) bytes.now) }
+    {
+        for byte in bytes {
+            match self.byte(alloc, *byte) {
+                Ok(()) => {}
+                Err(fault) => return Err(fault),
+            }
+        }
+        Ok(())
+    }
+
+    // The texts of the content.
+    fn tokens(&mut self, alloc: Global, text: &[u8], tokens: &[Token]) -> Result<(), ContentFault>
+        requires { SpansRise 0 tokens.now (length text.now) }
+        ensures { c.Steps (o.view self.new) result (c.through_all o.next_byte text.now (o.view self.old) tokens.now) }
+    {
+        for token in tokens {
+            match self.bytes(alloc, inside(text, *token)) {
+                Ok(()) => {}
+                Err(fault) => return Err(fault),
+            }
+        }
+        Ok(())
+    }
+}
+
+// The entries of the tokens of a VALUE.
+pub fn opcodes(alloc: Global, text: &[u8], tokens: &[Token]) -> Result<Vec<Opcode>, ContentFault>
+    requires { SpansRise 0 tokens.now (length text.now) }
+    ensures { c.Gives (λ found. found.items) result (o.opcodes text.now tokens.now) }
+{
+    let mut reading = OpcodeReading {
+        stage: OpcodeStage::Entry,
+        done: Vec::new(alloc),
+        name: String::new(alloc),
+        patterns: Vec::new(alloc),
+        digits: Vec::new(alloc),
+    };
+    match reading.tokens(alloc, text, tokens) {
+        Ok(()) => {}
+        Err(fault) => return Err(fault),
+    }
+    match reading.stage {
+        OpcodeStage::Closed => Ok(reading.done),
+        _ => Err(ContentFault::Departs(8)),
+    }
+}

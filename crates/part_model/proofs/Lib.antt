@@ -1,0 +1,9 @@
+pub mod Bypass
+pub mod CodeLaws
+pub mod MatchLaws
+pub mod PlaceLaws
+pub mod ResetLaws
+pub mod NumberLaws
+pub mod PartLaws
+pub mod Accepted
+pub mod CauseLaws

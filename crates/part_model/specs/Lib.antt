@@ -1,0 +1,4 @@
+pub mod Parts
+pub mod Plans
+pub mod Demo
+pub mod Laws

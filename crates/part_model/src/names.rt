@@ -1,0 +1,62 @@
+// Names that are compared and looked for.
+ghost use Rattle.std.specs.Prelude.{◌≡◌, IfOk};
+ghost use Rattle.part_model.specs.Parts as parts;
+ghost use Rattle.part_model.specs.Plans as plans;
+
+use base_types::Text;
+use std::alloc::{AllocError, Global};
+
+// Equal bytes.
+pub fn same_name(left: &[u8], right: &[u8]) -> bool
+    ensures { result ≡ parts.same_name left.now right.now }
+{
+    let mut rest = left;
+    let mut other = right;
+    loop {
+        let Some((x, more)) = rest.split_first() else {
+            return other.is_empty();
+        };
+        let Some((y, others)) = other.split_first() else {
+            return false;
+        };
+        if *x != *y {
+            return false;
+        }
+        rest = more;
+        other = others;
+    }
+}
+
+// The bytes of a name.
+pub fn spelled(name: &Text) -> &[u8]
+    ensures { result.now ≡ name.now }
+{
+    name.as_str().as_bytes()
+}
+
+// An equal text.
+pub fn copy_name(alloc: Global, name: &Text) -> Result<Text, AllocError>
+    ensures { IfOk result (λ copy. copy ≡ name.now) }
+{
+    let string = String::from_str(alloc, name.as_str())?;
+    Ok(Text::from_string(string))
+}
+
+// Whether a name is among these.
+pub fn is_listed(name: &[u8], names: &[Text]) -> bool
+    ensures { result ≡ plans.is_listed name.now names.now }
+{
+    for other in names {
+        if same_name(name, spelled(other)) {
+            return true;
+        }
+    }
+    false
+}
+
+// Whether the standard names a register so.
+pub fn is_standard(name: &[u8]) -> bool
+    ensures { result ≡ plans.is_listed name.now plans.standard_names }
+{
+    same_name(name, b"BYPASS") || same_name(name, b"BOUNDARY") || same_name(name, b"DEVICE_ID")
+}

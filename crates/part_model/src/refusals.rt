@@ -1,0 +1,262 @@
+// Which plans are refused, and the first cause.
+ghost use Rattle.std.specs.Prelude.{◌≡◌, ◌≤◌, ◌<◌, ◌-◌, ◌^◌, not, ◌||◌, [], length, map, codes, if◌then◌else◌, IfOk, IfErr, None};
+ghost use Rattle.std.specs.List.{list_any};
+ghost use Rattle.part_model.specs.Parts as parts;
+ghost use Rattle.part_model.specs.Plans as plans;
+
+use crate::names::{is_listed, same_name, spelled};
+use crate::plan::{Access, Opcode, PartPlan, PartRefusal, Pattern, PlanRefusal};
+use crate::registers::{DataRegister, length_named, mention};
+use crate::{Digit, Field};
+use base_types::Text;
+use std::alloc::Global;
+
+pub fn refuse(cause: u8, field: Field) -> Option<PlanRefusal>
+    ensures { result ≡ plans.refuse cause field }
+{
+    Some(PlanRefusal { cause, field })
+}
+
+pub fn refuse_if(test: bool, cause: u8, field: Field) -> Option<PlanRefusal>
+    ensures { result ≡ plans.refuse_if test cause field }
+{
+    if test { refuse(cause, field) } else { None }
+}
+
+// Whether a pattern has another length.
+fn wrong_length(count: u32, pattern: &[Digit]) -> bool
+    ensures { result ≡ plans.wrong_length count pattern.now }
+{
+    pattern.len() != count as usize
+}
+
+fn wrong_option(pattern: &Option<Pattern>) -> bool
+    ensures { result ≡ plans.wrong_option pattern.now }
+{
+    match pattern {
+        Some(pattern) => wrong_length(32, pattern.digits()),
+        None => false,
+    }
+}
+
+fn any_wrong_length(count: u32, patterns: &[Pattern]) -> bool
+    ensures { result ≡ list_any (plans.wrong_length count) patterns.now }
+{
+    for pattern in patterns {
+        if wrong_length(count, pattern.digits()) {
+            return true;
+        }
+    }
+    false
+}
+
+fn has_wrong_length(count: u32, opcodes: &[Opcode]) -> bool
+    ensures { result ≡ plans.any_of_another_length count opcodes.now }
+{
+    for opcode in opcodes {
+        if any_wrong_length(count, opcode.patterns.as_slice()) {
+            return true;
+        }
+    }
+    false
+}
+
+fn length_refusal(plan: &PartPlan) -> Option<PlanRefusal>
+    ensures { result ≡ plans.length_refusal plan.now }
+{
+    refuse_if(
+        plan.ir_len < 2 || plan.ir_len > 64,
+        1,
+        Field::InstructionLength,
+    )
+}
+
+fn pattern_refusal(plan: &PartPlan) -> Option<PlanRefusal>
+    ensures { result ≡ plans.pattern_refusal plan.now }
+{
+    if has_wrong_length(plan.ir_len, plan.opcodes.as_slice()) {
+        return refuse(2, Field::InstructionOpcode);
+    }
+    if wrong_length(plan.ir_len, plan.capture.digits()) {
+        return refuse(2, Field::InstructionCapture);
+    }
+    if wrong_option(&plan.idcode) {
+        return refuse(2, Field::IdcodeRegister);
+    }
+    refuse_if(wrong_option(&plan.usercode), 2, Field::UsercodeRegister)
+}
+
+// Whether a captured pattern ends in 01, X read as 0.
+fn captures_01(digits: &[Digit]) -> bool
+    ensures { result ≡ plans.captures_01 (plans.bits_of_pattern digits.now) }
+{
+    let Some((lowest, rest)) = digits.split_first() else {
+        return false;
+    };
+    let Some(next) = rest.first() else {
+        return false;
+    };
+    *lowest == Digit::One && *next != Digit::One
+}
+
+// The length that a register has before an access.
+fn known_length(plan: &PartPlan, known: &[DataRegister], name: &[u8]) -> Option<u32>
+    ensures { result ≡ plans.known_length plan.now (parts.named_of known.now) name.now }
+{
+    if same_name(name, b"BYPASS") {
+        return Some(1);
+    }
+    if same_name(name, b"BOUNDARY") {
+        return Some(plan.boundary);
+    }
+    if same_name(name, b"DEVICE_ID") {
+        return Some(32);
+    }
+    length_named(known, name)
+}
+
+fn any_other_than_usercode(instructions: &[Text]) -> bool
+    ensures { result ≡ list_any (λ instruction. not (parts.same_name instruction (codes "USERCODE"))) instructions.now }
+{
+    for instruction in instructions {
+        if !same_name(spelled(instruction), b"USERCODE") {
+            return true;
+        }
+    }
+    false
+}
+
+// Whether an access names DEVICE_ID by IDCODE where there is no identification.
+fn no_identification(plan: &PartPlan, access: &Access) -> bool
+    ensures { result ≡ plans.no_identification plan.now.idcode access.now.register access.now.instructions }
+{
+    if plan.idcode.is_some() {
+        return false;
+    }
+    same_name(spelled(&access.register), b"DEVICE_ID")
+        && any_other_than_usercode(access.instructions.as_slice())
+}
+
+pub fn has_opcode(opcodes: &[Opcode], name: &[u8]) -> bool
+    ensures { result ≡ plans.has_opcode opcodes.now name.now }
+{
+    for opcode in opcodes {
+        if same_name(spelled(&opcode.name), name) {
+            return true;
+        }
+    }
+    false
+}
+
+// Whether a name is one of the opcodes'.
+fn is_opcode(name: &[u8], opcodes: &[Opcode]) -> bool
+    ensures { result ≡ plans.is_listed name.now (map (λ opcode. opcode.name) opcodes.now) }
+{
+    for opcode in opcodes {
+        if same_name(name, spelled(&opcode.name)) {
+            return true;
+        }
+    }
+    false
+}
+
+fn any_without_opcode(instructions: &[Text], opcodes: &[Opcode]) -> bool
+    ensures { result ≡ list_any (λ instruction. not (plans.is_listed instruction (map (λ opcode. opcode.name) opcodes.now))) instructions.now }
+{
+    for instruction in instructions {
+        if !is_opcode(spelled(instruction), opcodes) {
+            return true;
+        }
+    }
+    false
+}
+
+fn differs(known: Option<u32>, stated: Option<u32>) -> bool
+    ensures { result ≡ plans.differs known stated }
+{
+    match (known, stated) {
+        (Some(known), Some(stated)) => known != stated,
+        _ => false,
+    }
+}
+
+// The first cause in one access.
+fn access_refusal(plan: &PartPlan, known: &[DataRegister], access: &Access) -> Option<PlanRefusal>
+    ensures { result ≡ plans.access_refusal plan.now (parts.named_of known.now) access.now }
+{
+    let length = known_length(plan, known, spelled(&access.register));
+    if differs(length, access.length) {
+        return refuse(4, Field::RegisterAccess);
+    }
+    if length.is_none() && access.length.is_none() {
+        return refuse(5, Field::RegisterAccess);
+    }
+    if no_identification(plan, access) {
+        return refuse(5, Field::RegisterAccess);
+    }
+    if access.length == Some(0) {
+        return refuse(6, Field::RegisterAccess);
+    }
+    if access.length.is_some_and(|length| length > 65536) {
+        return refuse(7, Field::RegisterAccess);
+    }
+    refuse_if(
+        any_without_opcode(access.instructions.as_slice(), plan.opcodes.as_slice()),
+        9,
+        Field::RegisterAccess,
+    )
+}
+
+// The first cause among the lengths, the patterns and the captured digits.
+pub fn code_refusal(plan: &PartPlan) -> Option<PlanRefusal>
+    ensures { result ≡ plans.code_refusal plan.now }
+{
+    if let Some(refusal) = length_refusal(plan) {
+        return Some(refusal);
+    }
+    if let Some(refusal) = pattern_refusal(plan) {
+        return Some(refusal);
+    }
+    refuse_if(
+        !captures_01(plan.capture.digits()),
+        3,
+        Field::InstructionCapture,
+    )
+}
+
+// The named registers of the accesses, or the first cause in them.
+pub fn named_registers(alloc: Global, plan: &PartPlan) -> Result<Vec<DataRegister>, PartRefusal>
+    ensures accepted { IfOk result (λ named. plans.accesses_refusal plan.now [] plan.now.access ≡ None) }
+    ensures named { IfOk result (λ named. parts.named_of named.items ≡ plans.named_registers plan.now.access) }
+    ensures few { IfOk result (λ named. length named.items < 2 ^ 32 - 4) }
+    ensures refused { IfErr result (λ refusal. plans.RefusesAs refusal (plans.accesses_refusal plan.now [] plan.now.access)) }
+{
+    let mut known = Vec::new(alloc);
+    for access in plan.access.as_slice() {
+        if let Some(refusal) = access_refusal(plan, &known, access) {
+            return Err(refusal.into());
+        }
+        mention(alloc, &mut known, access)?;
+    }
+    Ok(known)
+}
+
+// The first cause in BOUNDARY_LENGTH, and in opcodes without an identification.
+pub fn boundary_refusal(plan: &PartPlan) -> Option<PlanRefusal>
+    ensures { result ≡ plans.or_else (plans.boundary_refusal plan.now) (plans.opcode_refusal plan.now.idcode plan.now.opcodes) }
+{
+    if plan.boundary == 0 {
+        return refuse(6, Field::BoundaryLength);
+    }
+    if plan.boundary > 65536 {
+        return refuse(7, Field::BoundaryLength);
+    }
+    if plan.idcode.is_some() {
+        return None;
+    }
+    refuse_if(
+        has_opcode(plan.opcodes.as_slice(), b"IDCODE"),
+        5,
+        Field::InstructionOpcode,
+    )
+}

@@ -1,0 +1,115 @@
+// The reset code and the identification of a plan that has codes of the right lengths.
+ghost use Rattle.std.specs.Prelude.{◌≡◌, ◌≤◌, ◌<◌, ◌^◌, true, false, length, map, None};
+ghost use Rattle.std.specs.List.{list_any};
+ghost use Rattle.std.specs.Option.{option_map};
+ghost use Rattle.scan_bits.specs.Words.{bits_of};
+ghost use Rattle.part_model.specs.Parts as parts;
+ghost use Rattle.part_model.specs.Plans as plans;
+
+use crate::Field;
+use crate::codes::{code_of, is_odd, ones, word_of};
+use crate::names::{same_name, spelled};
+use crate::plan::{Opcode, PartPlan, Pattern, PlanRefusal};
+use crate::refusals::{has_opcode, refuse, refuse_if};
+use crate::registers::IDCODE;
+use crate::selections::{Selection, selected};
+
+// The code of the first pattern.
+fn first_code(count: u32, patterns: &[Pattern]) -> u64
+    requires most { count ≤ 64 }
+    requires some { 0 < length patterns.now }
+    requires lengths { list_any (plans.wrong_length count) patterns.now ≡ false }
+    ensures is { bits_of count result ≡ plans.bits_of_pattern (plans.first_pattern patterns.now) }
+    ensures bound { result < 2 ^ count }
+{
+    code_of(count, patterns[0].digits())
+}
+
+// The code of the first pattern of the first IDCODE opcode, or all ones.
+fn idcode_code(count: u32, opcodes: &[Opcode]) -> u64
+    requires some { 1 ≤ count }
+    requires most { count ≤ 64 }
+    requires lengths { plans.any_of_another_length count opcodes.now ≡ false }
+    requires patterns { plans.all_have_patterns opcodes.now ≡ true }
+    ensures is { bits_of count result ≡ plans.idcode_pattern count opcodes.now }
+    ensures bound { result < 2 ^ count }
+{
+    for opcode in opcodes {
+        if same_name(spelled(&opcode.name), b"IDCODE") {
+            return first_code(count, opcode.patterns.as_slice());
+        }
+    }
+    ones(count)
+}
+
+// The reset code: that of IDCODE where there is an identification, and all ones otherwise.
+pub fn reset_code(plan: &PartPlan) -> u64
+    requires lengths { plans.code_refusal plan.now ≡ None }
+    requires patterns { plans.all_have_patterns plan.now.opcodes ≡ true }
+    ensures is { bits_of plan.now.ir_len result ≡ plans.reset_of plan.now.idcode plan.now.ir_len plan.now.opcodes }
+    ensures bound { result < 2 ^ plan.now.ir_len }
+{
+    if plan.idcode.is_some() {
+        idcode_code(plan.ir_len, plan.opcodes.as_slice())
+    } else {
+        ones(plan.ir_len)
+    }
+}
+
+// The captured code.
+pub fn capture_code(plan: &PartPlan) -> u64
+    requires { plans.code_refusal plan.now ≡ None }
+    ensures is { bits_of plan.now.ir_len result ≡ plans.bits_of_pattern plan.now.capture }
+    ensures bound { result < 2 ^ plan.now.ir_len }
+{
+    code_of(plan.ir_len, plan.capture.digits())
+}
+
+// The identification code.
+pub fn idcode(plan: &PartPlan) -> Option<u32>
+    requires { plans.code_refusal plan.now ≡ None }
+    ensures { option_map (bits_of 32) result ≡ plans.pattern_bits plan.now.idcode }
+{
+    match &plan.idcode {
+        Some(pattern) => Some(word_of(pattern.digits())),
+        None => None,
+    }
+}
+
+// The user code, 0 where none is given.
+pub fn usercode(plan: &PartPlan) -> u32
+    requires { plans.code_refusal plan.now ≡ None }
+    ensures { bits_of 32 result ≡ plans.bits_or_zeros plan.now.usercode }
+{
+    match &plan.usercode {
+        Some(pattern) => word_of(pattern.digits()),
+        None => 0,
+    }
+}
+
+// Whether a number is that of DEVICE_ID by IDCODE.
+fn is_idcode(register: u32) -> bool
+    ensures { result ≡ plans.selects_idcode (parts.numbered register) }
+{
+    register == IDCODE
+}
+
+// Cause 8, for the instructions and the reset code of the plan.
+pub fn identification_refusal(
+    plan: &PartPlan,
+    opcodes: &[Selection],
+    reset_code: u64,
+) -> Option<PlanRefusal>
+    requires opcodes { parts.instructions_of opcodes.now ≡ map (plans.opcode_of plan.now.access) plan.now.opcodes }
+    requires reset { bits_of plan.now.ir_len reset_code ≡ plans.reset_of plan.now.idcode plan.now.ir_len plan.now.opcodes }
+    ensures { result ≡ plans.identification_refusal plan.now.idcode plan.now }
+{
+    let Some(pattern) = &plan.idcode else {
+        return None;
+    };
+    if !has_opcode(plan.opcodes.as_slice(), b"IDCODE") || !is_odd(pattern.digits()) {
+        return refuse(8, Field::IdcodeRegister);
+    }
+    let register = selected(opcodes, plan.ir_len, reset_code);
+    refuse_if(!is_idcode(register), 8, Field::IdcodeRegister)
+}
