@@ -1,0 +1,10 @@
+pub mod Rows
+pub mod Unwired
+pub mod EdgeKeeps
+pub mod WordRun
+pub mod Calls
+pub mod Uncounted
+pub mod Latches
+pub mod Stages
+pub mod Wires
+pub mod Tape
