@@ -1,0 +1,12 @@
+pub mod Fronts
+pub mod Numbers
+pub mod Cases
+pub mod Refusals
+pub mod Wants
+pub mod Encodings
+pub mod Prefixes
+pub mod Steps
+pub mod BitWords
+pub mod Rooms
+pub mod Vectors
+pub mod Replies
