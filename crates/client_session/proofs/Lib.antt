@@ -1,0 +1,14 @@
+pub mod Sizes
+pub mod Steps
+pub mod Later
+pub mod Joins
+pub mod Growth
+pub mod Answering
+pub mod Awaiting
+pub mod Reaching
+pub mod Kept
+pub mod Drops
+pub mod Opening
+pub mod Itself
+pub mod Replies
+pub mod Short

@@ -1,0 +1,9 @@
+pub mod Acts
+pub mod Seats
+pub mod Private
+pub mod Turns
+pub mod Sessions
+pub mod Replies
+pub mod Paces
+pub mod Laws
+pub mod Places

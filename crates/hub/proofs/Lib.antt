@@ -1,0 +1,17 @@
+pub mod Lists
+pub mod Waiting
+pub mod Going
+pub mod Serving
+pub mod Moving
+pub mod Admitted
+pub mod Isolation
+pub mod Turning
+pub mod OneCapture
+pub mod Holding
+pub mod Over
+pub mod Since
+pub mod Replays
+pub mod Weights
+pub mod Resting
+pub mod Scripts
+pub mod Short

@@ -1,0 +1,4 @@
+pub mod PrivateChains
+pub mod Scans
+pub mod Timing
+pub mod Lengths
