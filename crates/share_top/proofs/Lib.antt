@@ -1,0 +1,4 @@
+pub mod ShiftLaws
+pub mod AnswerLaws
+pub mod SessionLaws
+pub mod AssemblyLaws

@@ -1,0 +1,5 @@
+pub mod Shifts
+pub mod Demo
+pub mod Commands
+pub mod Sessions
+pub mod Outcomes

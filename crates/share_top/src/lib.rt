@@ -1,0 +1,14 @@
+//! The commands of the server.
+#![tactic(auto)]
+
+mod answer;
+mod command;
+mod outcome;
+mod pipe;
+mod session;
+mod shift;
+
+pub use command::{RanLocal, local_command};
+
+#[cfg(test)]
+mod tests;
