@@ -4,7 +4,7 @@
 find_rt() {
     local place name
     command -v rt && return 0
-    for place in "${RATTLE:-}" "${RATTLE_HOME:-}" "${HOME:-}/.rattle" /opt/rattle /usr/local; do
+    for place in "${RATTLE:-}" "${RATTLE_HOME:-}" "${HOME:-}/.rattle"; do
         for name in "$place/rt" "$place/bin/rt"; do
             if [[ -n $place && -f $name && -x $name ]]; then
                 printf '%s\n' "$name"
