@@ -5,7 +5,6 @@ use Rattle.std.specs.List.{list_any}
 use Rattle.std.specs.declared.option.Option.TheVariants.{Some}
 use Rattle.part_model.specs.Parts.{DeviceType}
 use Rattle.part_model.specs.Plans.{IsPart}
-use Rattle.grant_table.specs.Faults.{IsLayout}
 use Rattle.client_session.specs.Seats.{finished}
 use Rattle.client_session.specs.Laws.{IsShortVector}
 use Rattle.wire_port.specs.Steps.{Step, opens_once, taken_from}
@@ -47,11 +46,6 @@ abbrev pub PartsFit : List DeviceType → List (List Bool) → Type 0
 PartsFit [] [] = Unit {0}
 PartsFit (part ∷ parts) (row ∷ pins) = (IsPart part × (length row ≡ part.boundary_length)) × PartsFit parts pins
 PartsFit _ _ = ⊥
-
--- the setting is one that a setup makes
-pub record IsSound (setting : Setting) : Type 0 where
-  pub layout : IsLayout setting.layout
-  pub parts : PartsFit setting.layout.parts setting.pins
 
 -- each seat's chain is made of the devices and nets of its grant
 abbrev pub EachSeatIsOver : Type 0
