@@ -5,5 +5,6 @@ pub mod PlaceLaws
 pub mod ResetLaws
 pub mod NumberLaws
 pub mod PartLaws
+pub mod Ranges
 pub mod Accepted
 pub mod CauseLaws

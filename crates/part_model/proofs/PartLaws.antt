@@ -7,9 +7,10 @@ use Rattle.part_model.specs.declared.Digit.{Digit}
 use Rattle.part_model.specs.declared.Field.TheVariants.{IdcodeRegister}
 use Rattle.part_model.specs.Parts.{DeviceType, Register, selected, is_identified}
 use Rattle.part_model.specs.Parts.Register.{Bypass, Boundary, Idcode, Usercode, Named}
-use Rattle.part_model.specs.Plans.{PartAttributes, part_of, bits_of_pattern, pattern_bits, reset_of, captures_01, code_refusal, accesses_refusal, boundary_refusal, opcode_refusal, identification_refusal, plan_refusal, or_else, has_opcode, is_odd, selects_idcode}
+use Rattle.part_model.specs.Plans.{PartAttributes, part_of, bits_of_pattern, pattern_bits, reset_of, captures_01, code_refusal, identification_refusal, has_opcode, is_odd, selects_idcode}
 use Rattle.part_model.specs.Laws.{CapturedEndsIn01, ResetIdentifies, ResetBypasses}
 use Rattle.part_model.proofs.Bypass.{selected-ones}
+use Rattle.part_model.proofs.Ranges.{not_refused}
 use Rattle.part_model.proofs.ResetLaws.{coded, first_none, refuse_none, both_false}
 
 ends : (bits : List Bool) → captures_01 bits ≡ true → take 2 bits ≡ true ∷ false ∷ []
@@ -32,12 +33,6 @@ idcode_is Idcode is = refl
 idcode_is Usercode is = absurd (cc is)
 idcode_is (Named at) is = absurd (cc is)
 
-accepted_last : (plan : PartAttributes) → plan_refusal plan ≡ None → identification_refusal plan.idcode plan ≡ None
-accepted_last plan is =
-    let a = first_none (code_refusal plan) _ is in
-    let b = first_none (accesses_refusal plan [] plan.access) _ a.1 in
-    (first_none (or_else (boundary_refusal plan) (opcode_refusal plan.idcode plan.opcodes)) (identification_refusal plan.idcode plan) b.1).1
-
 identified : (plan : PartAttributes) (idcode : Option (List Digit)) → identification_refusal idcode plan ≡ None → is_identified (pattern_bits idcode) ≡ true → selected (part_of plan) (part_of plan).reset_code ≡ Idcode
 identified plan None is some = absurd (cc some)
 identified plan (Some pattern) is some =
@@ -50,7 +45,7 @@ identified plan (Some pattern) is some =
 pub reset_identifies : ResetIdentifies
 reset_identifies part is some =
     let same : is_identified (pattern_bits is.plan.idcode) ≡ true = ap (λ (p : DeviceType). is_identified p.idcode) (sym is.made) ∙ some in
-    subst (λ (p : DeviceType). selected p p.reset_code ≡ Idcode) (sym is.made) (identified is.plan is.plan.idcode (accepted_last is.plan is.accepted) same)
+    subst (λ (p : DeviceType). selected p p.reset_code ≡ Idcode) (sym is.made) (identified is.plan is.plan.idcode (not_refused is.plan is.accepted).has_identification same)
 
 bypassed : (plan : PartAttributes) (idcode : Option (List Digit)) → is_identified (pattern_bits idcode) ≡ false → selected (part_of plan) (reset_of idcode plan.ir_len plan.opcodes) ≡ Bypass
 bypassed plan None other = selected-ones (part_of plan) plan.ir_len

@@ -2,3 +2,4 @@ pub mod Parts
 pub mod Plans
 pub mod Demo
 pub mod Laws
+pub mod Sound

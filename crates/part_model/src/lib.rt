@@ -5,6 +5,7 @@ ghost use Rattle.std.specs.Prelude.{◌≡◌, ℕ, true, false, replicate, List
 ghost use Rattle.part_model.specs.Parts.{DeviceType, selected, Register};
 ghost use Rattle.part_model.specs.Plans.{PartAttributes, plan_refusal};
 ghost use Rattle.part_model.specs.Laws.{CapturedEndsIn01, ResetIdentifies, ResetBypasses};
+ghost use Rattle.part_model.specs.Sound.{PartsAreSound};
 ghost use Rattle.part_model.specs.Demo.{demo_plan, demo_part};
 
 mod codes;
@@ -73,4 +74,10 @@ pub fn demo_is_accepted()
     ensures reset { demo_part.reset_code ≡ false ∷ true ∷ false ∷ false ∷ [] }
     ensures user { selected demo_part (false ∷ false ∷ false ∷ true ∷ []) ≡ Register.Named 0 }
     ensures captured { plan_refusal (record demo_plan { capture = Digit.Zero ∷ Digit.Zero ∷ Digit.Zero ∷ Digit.Zero ∷ [] }) ≡ Some (record { cause = 3; field = Field.InstructionCapture }) }
+{}
+
+/// Each device type that a plan makes has lengths in range and codes of its instruction register's length, and every code selects a data
+/// register that it has: the instruction register has 2 to 64 bits, a data register 1 to 65,536, and none that it has more than `longest`.
+pub fn parts_are_sound()
+    ensures { PartsAreSound }
 {}
