@@ -1,7 +1,14 @@
 // A bench whose calls fail where they are to.
-ghost use Rattle.std.specs.Prelude.{◌≡◌, None, false};
-ghost use Rattle.base_types.specs.Counts.{raised};
-ghost use Rattle.chain_model.specs.Tapes.{until_broken};
+ghost use Rattle.std.specs.Prelude.{◌≡◌, ◌⊎◌, ◌≤◌, ◌<◌, ◌^◌, None, true, false, map, length, IfOk, OnOk, OnErr};
+ghost use Rattle.std.specs.Result.{is_err, IsErrOf};
+ghost use Rattle.base_types.specs.Calls.{after_call};
+ghost use Rattle.base_types.specs.Counts.{HasCause, Rose, raised};
+ghost use Rattle.base_types.specs.Tellings.{Told, Both};
+ghost use Rattle.chain_model.specs.Chains.{powered, reset};
+ghost use Rattle.chain_model.specs.Cycles.{clocks_of};
+ghost use Rattle.chain_model.specs.Cables.{Clocked, HasDevice, empty_chain};
+ghost use Rattle.chain_model.specs.Boards.{placed, EachHasPins, EachHasEnds};
+ghost use Rattle.chain_model.specs.Tapes.{until_broken, call_fails, own_faults};
 
 use crate::cable::Board;
 use crate::{AssembleFault, Bench, Cable, CableFault};
@@ -46,6 +53,22 @@ impl<B: Bench> FailBench<B> {
         } = self;
         inner
     }
+
+    // Counts a call, and answers whether it fails before the inner bench is asked.
+    fn fails_now(&mut self) -> bool
+        ensures fails { result ≡ call_fails self.old.broken self.old.calls }
+        ensures counted { self.new.calls ≡ after_call self.old.calls }
+        ensures broken { self.new.broken ≡ call_fails self.old.broken self.old.calls }
+        ensures faults { self.new.faults ≡ own_faults self.old.broken self.old.calls self.old.faults }
+        ensures inner { self.new.inner ≡ self.old.inner }
+    {
+        if !self.calls.count() && !self.broken {
+            return false;
+        }
+        self.broken = true;
+        self.faults = self.faults.saturating_add(1);
+        true
+    }
 }
 
 impl<B: Bench> Cable for FailBench<B> {
@@ -59,38 +82,59 @@ impl<B: Bench> Cable for FailBench<B> {
 
     ghost trst = { λ t. B.trst t.inner };
 
-    fn cycles(&mut self, n: u32, tms: u64, tdi: u64) -> Result<u64, CableFault> {
-        if self.calls.count() || self.broken {
-            self.broken = true;
-            self.faults = self.faults.saturating_add(1);
+    // A listed call fails and does not reach the inner bench, and so does every call after one that failed. Any other call is the
+    // inner bench's, and fails only by a fault of its own.
+    fn cycles(&mut self, n: u32, tms: u64, tdi: u64) -> Result<u64, CableFault>
+        requires some { 1 ≤ n }
+        requires few { n ≤ 64 }
+        requires devices { Told (until_broken self.old.broken (B.chain self.old.inner)) HasDevice }
+        ensures clocked { IfOk result (Clocked (until_broken self.old.broken (B.chain self.old.inner)) (until_broken self.new.broken (B.chain self.new.inner)) (clocks_of n tms tdi)) }
+        ensures bound { IfOk result (λ word. word < 2 ^ n) }
+        ensures devices { OnOk result (Told (until_broken self.new.broken (B.chain self.new.inner)) HasDevice) }
+        ensures mark { B.mark self.new.inner ≡ B.mark self.old.inner }
+        ensures trst { B.trst self.new.inner ≡ B.trst self.old.inner }
+        ensures cause { HasCause (raised self.old.faults (B.fault_count self.old.inner)) (raised self.new.faults (B.fault_count self.new.inner)) result }
+        ensures listed { call_fails self.old.broken self.old.calls ≡ true → is_err result ≡ true }
+        ensures untouched { call_fails self.old.broken self.old.calls ≡ true → self.new.inner ≡ self.old.inner }
+        ensures inner { OnErr result ((call_fails self.old.broken self.old.calls ≡ true) ⊎ Rose (B.fault_count self.old.inner) (B.fault_count self.new.inner)) }
+        ensures counted { self.new.calls ≡ after_call self.old.calls }
+        ensures broken { self.new.broken ≡ is_err result }
+        ensures faults { self.new.faults ≡ own_faults self.old.broken self.old.calls self.old.faults }
+    {
+        if self.fails_now() {
             return Err(CableFault);
         }
-        match self.inner.cycles(n, tms, tdi) {
-            Ok(word) => Ok(word),
-            Err(fault) => {
-                self.broken = true;
-                Err(fault)
-            }
-        }
+        let result = self.inner.cycles(n, tms, tdi);
+        self.broken = result.is_err();
+        result
     }
 
     fn has_trst(&self) -> bool {
         self.inner.has_trst()
     }
 
-    fn reset(&mut self) -> Result<(), CableFault> {
-        if self.calls.count() || self.broken {
-            self.broken = true;
-            self.faults = self.faults.saturating_add(1);
+    // It fails as `cycles` does, and counts with it.
+    fn reset(&mut self) -> Result<(), CableFault>
+        requires trst { B.trst self.old.inner ≡ true }
+        requires devices { Told (until_broken self.old.broken (B.chain self.old.inner)) HasDevice }
+        ensures reset { OnOk result (Both (until_broken self.old.broken (B.chain self.old.inner)) (until_broken self.new.broken (B.chain self.new.inner)) (λ old new. new ≡ reset old)) }
+        ensures devices { OnOk result (Told (until_broken self.new.broken (B.chain self.new.inner)) HasDevice) }
+        ensures mark { B.mark self.new.inner ≡ B.mark self.old.inner }
+        ensures trst { B.trst self.new.inner ≡ B.trst self.old.inner }
+        ensures cause { HasCause (raised self.old.faults (B.fault_count self.old.inner)) (raised self.new.faults (B.fault_count self.new.inner)) result }
+        ensures listed { call_fails self.old.broken self.old.calls ≡ true → is_err result ≡ true }
+        ensures untouched { call_fails self.old.broken self.old.calls ≡ true → self.new.inner ≡ self.old.inner }
+        ensures inner { OnErr result ((call_fails self.old.broken self.old.calls ≡ true) ⊎ Rose (B.fault_count self.old.inner) (B.fault_count self.new.inner)) }
+        ensures counted { self.new.calls ≡ after_call self.old.calls }
+        ensures broken { self.new.broken ≡ is_err result }
+        ensures faults { self.new.faults ≡ own_faults self.old.broken self.old.calls self.old.faults }
+    {
+        if self.fails_now() {
             return Err(CableFault);
         }
-        match self.inner.reset() {
-            Ok(()) => Ok(()),
-            Err(fault) => {
-                self.broken = true;
-                Err(fault)
-            }
-        }
+        let result = self.inner.reset();
+        self.broken = result.is_err();
+        result
     }
 
     fn faults(&self) -> u64 {
@@ -104,7 +148,25 @@ impl<B: Bench> Bench for FailBench<B> {
         alloc: Global,
         boards: &[Board],
         nets: &[Net],
-    ) -> Result<(), AssembleFault> {
+    ) -> Result<(), AssembleFault>
+        requires empty { Told (until_broken self.old.broken (B.chain self.old.inner)) (λ old. old ≡ empty_chain) }
+        requires some { 1 ≤ length boards.now }
+        requires few { length boards.now ≤ 32 }
+        requires pins { EachHasPins boards.now }
+        requires nets { EachHasEnds boards.now nets.now }
+        ensures assembled { OnOk result (Both (until_broken self.old.broken (B.chain self.old.inner)) (until_broken self.new.broken (B.chain self.new.inner)) (λ old new. new ≡ powered (map placed boards.now) nets.now)) }
+        ensures emptied { OnErr result (Both (until_broken self.old.broken (B.chain self.old.inner)) (until_broken self.new.broken (B.chain self.new.inner)) (λ old new. new ≡ empty_chain)) }
+        ensures mark { B.mark self.new.inner ≡ B.mark self.old.inner }
+        ensures trst { B.trst self.new.inner ≡ B.trst self.old.inner }
+        ensures later { raised self.old.faults (B.fault_count self.old.inner) ≤ raised self.new.faults (B.fault_count self.new.inner) }
+        ensures kept { OnOk result (raised self.new.faults (B.fault_count self.new.inner) ≡ raised self.old.faults (B.fault_count self.old.inner)) }
+        ensures memory { IsErrOf result AssembleFault.Memory → raised self.new.faults (B.fault_count self.new.inner) ≡ raised self.old.faults (B.fault_count self.old.inner) }
+        ensures cause { IsErrOf result AssembleFault.Cable → Rose (raised self.old.faults (B.fault_count self.old.inner)) (raised self.new.faults (B.fault_count self.new.inner)) }
+        ensures after_failure { self.old.broken ≡ true → IsErrOf result AssembleFault.Cable }
+        ensures inner { IsErrOf result AssembleFault.Cable → (self.old.broken ≡ true) ⊎ Rose (B.fault_count self.old.inner) (B.fault_count self.new.inner) }
+        ensures calls { self.new.calls ≡ self.old.calls }
+        ensures broken { self.new.broken ≡ self.old.broken }
+    {
         if self.broken {
             self.faults = self.faults.saturating_add(1);
             return Err(AssembleFault::Cable);
