@@ -1,3 +1,4 @@
 pub mod Views
 pub mod MemPorts
 pub mod Streams
+pub mod Shelves

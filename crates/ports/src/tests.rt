@@ -3,6 +3,7 @@ ghost use Rattle.std.specs.Prelude.{◌<◌};
 
 use super::*;
 use std::alloc::{AllocError, Global};
+use std::fs;
 use std::test::Fail;
 
 fn source(
@@ -77,5 +78,75 @@ fn a_text_is_written_over_short_writes(rt: HostRuntime) -> Result<(), Fail> {
     assert_eq!(rt; write_all(&mut out, b"abcde"), Ok(()));
     assert_eq!(rt; write_all(&mut out, b"fghij"), Err(PortFault));
     assert_eq!(rt; out.written(), b"abcdefg".as_slice());
+    Ok(())
+}
+
+fn shelf(alloc: Global) -> Result<MemShelf, AllocError> {
+    let mut files = Vec::new(alloc);
+    for (name, bytes) in [("a", b"first"), ("b", b"other"), ("a", b"later")] {
+        files.push((String::from_str(alloc, name)?, bytes.to_vec(alloc)?))?;
+    }
+    Ok(MemShelf::new(alloc, files, [3].to_vec(alloc)?))
+}
+
+#[test]
+fn a_shelf_in_memory_gives_its_first_entry(rt: HostRuntime) -> Result<(), Fail> {
+    let alloc = rt.alloc();
+    let mut files = shelf(alloc)?;
+    assert!(rt;
+        files
+            .load(alloc, "a", 9)
+            .is_ok_and(|bytes| bytes.as_slice() == b"first".as_slice())
+    );
+    assert!(rt;
+        files
+            .load(alloc, "b", 2)
+            .is_ok_and(|bytes| bytes.as_slice() == b"ot".as_slice())
+    );
+    assert!(rt;
+        files
+            .load(alloc, "a", 9)
+            .is_err_and(|fault| fault == LoadFault::Fault)
+    );
+    assert_eq!(rt; files.faults(), 1);
+    assert!(rt;
+        files
+            .load(alloc, "c", 9)
+            .is_err_and(|fault| fault == LoadFault::Absent)
+    );
+    assert_eq!(rt; files.faults(), 1);
+    Ok(())
+}
+
+#[test]
+fn only_a_missing_file_is_absent_from_a_folder(rt: HostRuntime) -> Result<(), Fail> {
+    let alloc = rt.alloc();
+    let path = "/tmp/a_file_of_the_test_of_ports";
+    fs::write(&rt, path, b"content")?;
+    let mut files = FolderShelf::new(rt.clone()?, alloc);
+    assert!(rt;
+        files
+            .load(alloc, path, 4)
+            .is_ok_and(|bytes| bytes.as_slice() == b"cont".as_slice())
+    );
+    assert!(rt;
+        files
+            .load(alloc, path, 9)
+            .is_ok_and(|bytes| bytes.as_slice() == b"content".as_slice())
+    );
+    fs::remove_file(&rt, path)?;
+    for (name, fault, faults) in [
+        (path, LoadFault::Absent, 0),
+        ("/tmp", LoadFault::Fault, 1),
+        ("/dev/null/below", LoadFault::Fault, 2),
+    ] {
+        assert!(rt;
+            files
+                .load(alloc, name, 4)
+                .is_err_and(|found| found == fault),
+            "{name}"
+        );
+        assert_eq!(rt; files.faults(), faults);
+    }
     Ok(())
 }
