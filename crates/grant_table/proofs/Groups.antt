@@ -15,33 +15,33 @@ use Rattle.grant_table.specs.Apart.{RisesFrom, ComesFrom, KeepsApart}
 clash : {A : Type 0} → true ≡ false → A
 clash e = absurd (let q : true ≡ false = e in cc)
 
-first_true : (a b : Bool) → a ≡ true → (a || b) ≡ true
+pub first_true : (a b : Bool) → a ≡ true → (a || b) ≡ true
 first_true true b h = refl
 first_true false b h = clash (sym h)
 
-second_true : (a b : Bool) → b ≡ true → (a || b) ≡ true
+pub second_true : (a b : Bool) → b ≡ true → (a || b) ≡ true
 second_true true b h = refl
 second_true false b h = h
 
 -- ---- faults that don't apply
 
-first_none : (a b : Option LayoutFault) → or_fault a b ≡ None → a ≡ None
+pub first_none : (a b : Option LayoutFault) → or_fault a b ≡ None → a ≡ None
 first_none None b h = refl
 first_none (Some f) b h = h
 
-second_none : (a b : Option LayoutFault) → or_fault a b ≡ None → b ≡ None
+pub second_none : (a b : Option LayoutFault) → or_fault a b ≡ None → b ≡ None
 second_none None b h = h
 second_none (Some f) b h = absurd (let q : Some f ≡ None = h in cc)
 
-not_so : (t : Bool) (cause grant value : ℕ) → fault_if t cause grant value ≡ None → t ≡ false
+pub not_so : (t : Bool) (cause grant value : ℕ) → fault_if t cause grant value ≡ None → t ≡ false
 not_so true cause grant value h = absurd (let q : Some (record { cause = cause; grant = grant; value = value }) ≡ None = h in cc)
 not_so false cause grant value h = refl
 
-left_false : (a b : Bool) → (a || b) ≡ false → a ≡ false
+pub left_false : (a b : Bool) → (a || b) ≡ false → a ≡ false
 left_false true b h = h
 left_false false b h = refl
 
-right_false : (a b : Bool) → (a || b) ≡ false → b ≡ false
+pub right_false : (a b : Bool) → (a || b) ≡ false → b ≡ false
 right_false true b h = clash h
 right_false false b h = h
 

@@ -1,1 +1,5 @@
 pub mod Groups
+pub mod Sums
+pub mod Shapes
+pub mod Places
+pub mod Ports

@@ -1,3 +1,4 @@
 pub mod Layouts
 pub mod Faults
 pub mod Apart
+pub mod Kept

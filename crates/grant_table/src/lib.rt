@@ -5,6 +5,13 @@ ghost use Rattle.std.specs.Prelude.{◌≡◌, [], ℕ};
 ghost use Rattle.grant_table.specs.Layouts.{grant_at_port};
 ghost use Rattle.grant_table.specs.Apart.{LayoutsKeepApart};
 
+mod grant;
+mod layout;
+
+pub use grant::Grant;
+pub use layout::Layout;
+pub use part_model::Net;
+
 /// The protocol that a grant's clients speak: Xilinx Virtual Cable 1.0, or OpenOCD's remote_bitbang.
 #[derive(Clone, Copy, Debug, PartialEq, Eq)]
 pub enum Protocol {
