@@ -5,6 +5,7 @@ ghost use Rattle.std.specs.Prelude.{◌≡◌, [], List};
 ghost use Rattle.chain_model.specs.Chains.{Placed, powered};
 ghost use Rattle.scan_share.specs.PrivateChains.{private_chain};
 ghost use Rattle.scan_share.specs.Lengths.{ScansOwnAndOthers};
+ghost use Rattle.scan_share.specs.Laws.{LoadAndCapture, CaptureLoaded, WriteUpdates, StartRests, ResetAbandons, PoweredIsWhole};
 
 /// The private chain of no devices is the empty chain.
 pub fn empty_group()
@@ -14,4 +15,36 @@ pub fn empty_group()
 /// A scan of the shared chain for a group is as long as the group's registers, and one bit for each device that is not in the group.
 pub fn scans_own_and_others()
     ensures { ScansOwnAndOthers }
+{}
+
+/// Where the loaded codes are others than those of the scan, an instruction scan, Capture-DR and a read-out capture the group: its
+/// devices hold and give what their private chain would, all other devices hold what they held, and the scan is open in Pause-DR.
+pub fn load_and_capture()
+    ensures { LoadAndCapture }
+{}
+
+/// Where the codes of the scan are loaded, Capture-DR and a read-out do the same.
+pub fn capture_loaded()
+    ensures { CaptureLoaded }
+{}
+
+/// A write into an open scan updates the group: its devices hold what their private chain would, all other devices hold what they
+/// held, and the chain is in Run-Test/Idle with the codes that were loaded.
+pub fn write_updates()
+    ensures { WriteUpdates }
+{}
+
+/// Six cycles from power-up lead to Run-Test/Idle with the instructions of Test-Logic-Reset.
+pub fn start_rests()
+    ensures { StartRests }
+{}
+
+/// A reset and one cycle end a scan without an update, and lead to Run-Test/Idle with the instructions of Test-Logic-Reset.
+pub fn reset_abandons()
+    ensures { ResetAbandons }
+{}
+
+/// A chain at power-up is made of all device types and nets of its layout.
+pub fn powered_is_whole()
+    ensures { PoweredIsWhole }
 {}
