@@ -2,3 +2,4 @@ pub mod Layouts
 pub mod Faults
 pub mod Apart
 pub mod Kept
+pub mod Refusals

@@ -5,9 +5,13 @@ ghost use Rattle.std.specs.Prelude.{◌≡◌, [], ℕ};
 ghost use Rattle.grant_table.specs.Layouts.{grant_at_port};
 ghost use Rattle.grant_table.specs.Apart.{LayoutsKeepApart};
 
+mod faults;
 mod grant;
 mod layout;
+#[cfg(test)]
+mod tests;
 
+pub use faults::{LayoutRefusal, MOST_DEVICES, MOST_GRANTS, MOST_NETS, layout_fault};
 pub use grant::Grant;
 pub use layout::Layout;
 pub use part_model::Net;
