@@ -1,0 +1,7 @@
+use Rattle.std.proofs.Common.{◌≡◌, drop}
+use Rattle.toml.specs.View.{items_view}
+use Rattle.setup_document.specs.Keys.{are_integers}
+use Rattle.setup_document.proofs.lists.are_integers.Given as goal
+
+abbrev pub invariant-loop-value : goal.invariant-loop-value
+invariant-loop-value l = are_integers (items_view (drop l.value-index l.values)) ≡ are_integers (items_view l.values)

@@ -1,0 +1,11 @@
+//! What a setup file says: a TOML document with the devices of a chain, their grants, and nets.
+#![tactic(auto)]
+
+mod document;
+mod entries;
+mod keys;
+mod lists;
+mod plan;
+
+pub use document::read_document;
+pub use plan::{DeviceEntry, DocumentRefusal, Place, SetupPlan};
