@@ -7,6 +7,9 @@ ghost use Rattle.bsdl_lex.specs.Tokens as t;
 ghost use Rattle.bsdl_lex.specs.Laws as l;
 ghost use Rattle.bsdl_lex.specs.declared.LexRefusal.TheVariants.{Memory};
 
+#[cfg(test)]
+mod tests;
+
 use std::alloc::{AllocFailed, Global};
 use thiserror::Error;
 
@@ -356,25 +359,3 @@ pub fn accepted_or_refused()
     ensures one { l.OneOfBoth }
     ensures never_both { l.NeverBoth }
 {}
-
-#[test]
-fn reads_the_forms(rt: HostRuntime) -> Result<(), LexRefusal> {
-    let alloc = rt.alloc();
-    let found = tokens(alloc, b"20.0e6")?;
-    let number = Token {
-        kind: TokenKind::Number,
-        start: 0,
-        end: 6,
-    };
-    assert_eq!(rt; found.as_slice(), [number].as_slice());
-    Ok(())
-}
-
-#[test]
-fn refuses_at_the_first_place(rt: HostRuntime) {
-    let alloc = rt.alloc();
-    let exponent = LexRefusal::Refused { at: 0, cause: 3 };
-    assert!(rt; tokens(alloc, b"1e").is_err_and(|refusal| refusal == exponent));
-    let quote = LexRefusal::Refused { at: 2, cause: 2 };
-    assert!(rt; tokens(alloc, b"a \"b").is_err_and(|refusal| refusal == quote));
-}

@@ -4,4 +4,9 @@ pub mod Bytes
 pub mod Patterned
 pub mod Filing
 pub mod Parting
+pub mod Spans
+pub mod OpcodeParts
+pub mod PatternParts
+pub mod AccessParts
+pub mod Contenting
 pub mod Answering

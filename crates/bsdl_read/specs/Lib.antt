@@ -3,6 +3,7 @@ pub mod Structure
 pub mod Grammar
 pub mod Contents
 pub mod Opcodes
+pub mod ContentGrammar
 pub mod Patterns
 pub mod Accesses
 pub mod Reading

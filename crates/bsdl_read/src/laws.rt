@@ -12,3 +12,16 @@ pub fn entity_or_refusal()
     ensures one { l.OneOfBoth }
     ensures never_both { l.NeverBoth }
 {}
+
+/// The contents by their parts: INSTRUCTION_OPCODE, one pattern or several, and REGISTER_ACCESS are read exactly where what stands between
+/// the quotes, put together, is written as such entries, and say what these say. The first two are refused for cause 8 alone. The last
+/// digit of a number is the lowest.
+pub fn contents_have_parts()
+    ensures one { l.OneContent }
+    ensures opcodes { l.OpcodesHaveParts }
+    ensures no_opcodes { l.OpcodesAreRefused }
+    ensures patterns { l.PatternsHaveParts }
+    ensures no_pattern { l.PatternsAreRefused }
+    ensures accesses { l.AccessesHaveParts }
+    ensures numbers { l.LastDigitIsLowest }
+{}

@@ -12,5 +12,5 @@ mod structure;
 mod tests;
 mod words;
 
-pub use laws::{entity_or_refusal, files_have_parts};
+pub use laws::{contents_have_parts, entity_or_refusal, files_have_parts};
 pub use read::{BsdlRefusal, Entity, read_part};
