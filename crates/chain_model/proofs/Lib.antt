@@ -8,3 +8,5 @@ pub mod Latches
 pub mod Stages
 pub mod Wires
 pub mod Tape
+pub mod ShiftRuns
+pub mod Pins

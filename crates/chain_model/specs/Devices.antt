@@ -5,7 +5,7 @@ use Rattle.std.specs.declared.option.Option.TheVariants.{None, Some}
 use Rattle.tap_states.specs.declared.Tap.{Tap}
 use Rattle.tap_states.specs.States.{in_dr_scan}
 use Rattle.scan_bits.specs.BitLists.{BitList}
-use Rattle.scan_bits.specs.Registers.{bit_at}
+use Rattle.scan_bits.specs.Registers.{bit_at, shifted_all, shifted_out}
 use Rattle.part_model.specs.declared.Net.{Net}
 use Rattle.part_model.specs.Parts.{DeviceType, NamedRegister, Register, selected, width, longest}
 use Rattle.part_model.specs.Parts.Register.{Boundary}
@@ -63,6 +63,18 @@ EachFits (device ∷ devices) = StageFits device × EachFits devices
 -- from Capture-DR to Update-DR the data stages of an open scan are as long as the selected registers
 pub record ScanFits (state : Tap) (open_scan : Bool) (devices : List DeviceState) : Type 0 where
   pub stages : in_dr_scan state ≡ true → open_scan ≡ true → EachFits devices
+
+-- ---- rows of shifts
+
+-- the devices after a row of shifts in Shift-DR: each takes the bits that leave the one before it
+abbrev pub run_dr : List Bool → List DeviceState → List DeviceState
+run_dr bits [] = []
+run_dr bits (device ∷ devices) = record device { dr_stage = shifted_all device.dr_stage bits } ∷ run_dr (shifted_out device.dr_stage bits) devices
+
+-- the bits that leave the last device
+abbrev pub out_dr : List Bool → List DeviceState → List Bool
+out_dr bits [] = bits
+out_dr bits (device ∷ devices) = out_dr (shifted_out device.dr_stage bits) devices
 
 -- ---- nets
 

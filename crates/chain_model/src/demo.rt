@@ -11,7 +11,7 @@ use part_model::{Access, Digit, Opcode, Part, PartPlan, Pattern};
 use scan_bits::Bits;
 use std::alloc::{AllocError, Global};
 
-fn text(alloc: Global, name: &str) -> Result<Text, AllocError>
+pub(crate) fn text(alloc: Global, name: &str) -> Result<Text, AllocError>
     ensures { IfOk result (λ text. text ≡ name.now) }
 {
     let string = String::from_str(alloc, name)?;
@@ -25,7 +25,7 @@ fn digit(bit: bool) -> Digit
 }
 
 // The digits of the lowest bits of a code.
-fn pattern(alloc: Global, count: u32, code: u64) -> Result<Pattern, AllocError>
+pub(crate) fn pattern(alloc: Global, count: u32, code: u64) -> Result<Pattern, AllocError>
     ensures { IfOk result (λ pattern. pattern ≡ digits_of_bits (bits_of count code)) }
 {
     let mut digits = Vec::new(alloc);
@@ -51,7 +51,7 @@ fn opcode(alloc: Global, name: &str, code: u64) -> Result<Opcode, AllocError>
     })
 }
 
-fn opcodes(alloc: Global) -> Result<Items<Opcode>, AllocError>
+pub(crate) fn opcodes(alloc: Global) -> Result<Items<Opcode>, AllocError>
     ensures { IfOk result (λ opcodes. opcodes ≡ demo_opcodes) }
 {
     let mut opcodes = Vec::new(alloc);

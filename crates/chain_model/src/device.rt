@@ -1,6 +1,7 @@
 // A device of a chain.
-ghost use Rattle.std.specs.Prelude.{◌≡◌, ◌≤◌, ◌<◌, [], ◌∷◌, length, ℕ, List, Bool, IfOk, Some, None, true, false, slice_get};
-ghost use Rattle.scan_bits.specs.Registers.{bit_at, shifted, lowest_or};
+ghost use Rattle.std.specs.Prelude.{◌≡◌, ◌≤◌, ◌<◌, ◌^◌, [], ◌∷◌, length, ℕ, List, Bool, IfOk, Some, None, true, false, slice_get};
+ghost use Rattle.scan_bits.specs.Registers.{bit_at, shifted, shifted_all, shifted_out, lowest_or};
+ghost use Rattle.scan_bits.specs.Words.{bits_of};
 ghost use Rattle.part_model.specs.Parts.{numbered, width, drives};
 ghost use Rattle.chain_model.specs.Chains.{ChainState, latch_of, powered_device, reset_device};
 ghost use Rattle.chain_model.specs.Cycles.{capture_device, update_device, capture_ir, update_ir, reset_code};
@@ -57,6 +58,20 @@ fn shift(stage: &mut Bits, tdi: bool) -> bool
         return tdi;
     }
     stage.turn(tdi)
+}
+
+// A row of shifts of a stage: what leaves it, or what comes in where it has no bit.
+fn shift_word(stage: &mut Bits, n: u32, tdi: u64) -> u64
+    requires word { (1 ≤ n) × (n ≤ 64) }
+    requires bound { tdi < 2 ^ n }
+    ensures out { bits_of n result ≡ shifted_out stage.old.bits (bits_of n tdi) }
+    ensures bits { stage.new ≡ record stage.old { bits = shifted_all stage.old.bits (bits_of n tdi) } }
+    ensures bound { result < 2 ^ n }
+{
+    if stage.len() == 0 {
+        return tdi;
+    }
+    stage.turn_word(n, tdi)
 }
 
 // The bit of a stage that is nearest TDO.
@@ -155,6 +170,17 @@ impl Device {
         ensures after { self.new ≡ record self.old { dr_stage = shifted self.old.dr_stage tdi } }
     {
         shift(&mut self.dr_stage, tdi)
+    }
+
+    // A row of rising edges in Shift-DR. The answer is what leaves.
+    pub fn shift_dr_word(&mut self, n: u32, tdi: u64) -> u64
+        requires word { (1 ≤ n) × (n ≤ 64) }
+        requires bound { tdi < 2 ^ n }
+        ensures out { bits_of n result ≡ shifted_out self.old.dr_stage (bits_of n tdi) }
+        ensures after { self.new ≡ record self.old { dr_stage = shifted_all self.old.dr_stage (bits_of n tdi) } }
+        ensures bound { result < 2 ^ n }
+    {
+        shift_word(&mut self.dr_stage, n, tdi)
     }
 
     // The falling edge in Update-DR, where a scan is open.

@@ -1,9 +1,10 @@
 // What an edge of TCK does to the devices of a chain, from TDI on.
-ghost use Rattle.std.specs.Prelude.{◌≡◌, [], true, map, length};
+ghost use Rattle.std.specs.Prelude.{◌≡◌, ◌≤◌, ◌<◌, ◌^◌, [], true, map, length};
+ghost use Rattle.scan_bits.specs.Words.{bits_of};
 ghost use Rattle.scan_bits.specs.Registers.{joined, lowest_or};
 ghost use Rattle.chain_model.specs.Chains.{ChainState, reset_device};
 ghost use Rattle.chain_model.specs.Cycles.{captured_from, shifted_dr, shifted_ir, capture_ir, update_device, update_ir, reset_code, dr_stages, ir_stages};
-ghost use Rattle.chain_model.specs.Devices.{EachFits};
+ghost use Rattle.chain_model.specs.Devices.{EachFits, run_dr, out_dr};
 
 use crate::device::Device;
 
@@ -25,6 +26,29 @@ pub fn shift_dr(devices: &mut [Device], tdi: bool)
     for device in devices.iter_mut() {
         bit = device.shift_dr(bit);
     }
+}
+
+// A row of cycles in Shift-DR. The answer is what leaves the last device.
+pub fn shift_dr_word(devices: &mut [Device], n: u32, tdi: u64) -> u64
+    requires word { (1 ≤ n) × (n ≤ 64) }
+    requires bound { tdi < 2 ^ n }
+    ensures after { devices.new ≡ run_dr (bits_of n tdi) devices.old }
+    ensures out { bits_of n result ≡ out_dr (bits_of n tdi) devices.old }
+    ensures bound { result < 2 ^ n }
+{
+    let mut word = tdi;
+    for device in devices.iter_mut() {
+        word = device.shift_dr_word(n, word);
+    }
+    word
+}
+
+// Whether the last data stage has a bit.
+pub fn has_dr_bit(devices: &[Device]) -> bool
+    ensures { result ≡ true → 1 ≤ length (joined (dr_stages devices.now)) }
+{
+    let count = devices.len();
+    count > 0 && devices[count - 1].dr_bit().is_some()
 }
 
 // Update-DR, where a scan is open.

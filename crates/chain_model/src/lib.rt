@@ -56,3 +56,5 @@ pub fn calls_keep_devices()
 
 #[cfg(test)]
 mod tests;
+#[cfg(test)]
+mod yardstick;

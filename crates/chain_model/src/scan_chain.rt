@@ -1,13 +1,14 @@
 // A scan chain, edge by edge of TCK.
-ghost use Rattle.std.specs.Prelude.{◌≡◌, ◌≤◌, ◌<◌, ◌^◌, Bool, map, slice_get, IfSome, is_some, IfOk, OnOk, OnErr};
+ghost use Rattle.std.specs.Prelude.{◌≡◌, ◌≤◌, ◌<◌, ◌^◌, true, length, Bool, map, slice_get, IfSome, is_some, IfOk, OnOk, OnErr};
 ghost use Rattle.base_types.specs.Counts.{raised};
 ghost use Rattle.base_types.specs.Tellings.{Told};
 ghost use Rattle.tap_states.specs.States.{next};
-ghost use Rattle.scan_bits.specs.Words.{number_of};
+ghost use Rattle.scan_bits.specs.Words.{bits_of, number_of};
+ghost use Rattle.scan_bits.specs.Registers.{joined};
 ghost use Rattle.chain_model.specs.Chains.{ChainState, powered, powered_device, reset, reset_device};
-ghost use Rattle.chain_model.specs.Cycles.{rise, fall, cycle, after_cycles, after_call, answers, clocks_of, on_rise, on_fall, tdo_in};
+ghost use Rattle.chain_model.specs.Cycles.{rise, fall, cycle, after_cycles, after_call, answers, clocks_of, dr_stages, on_rise, on_fall, tdo_in};
 ghost use Rattle.chain_model.specs.Cables.{HasDevice, empty_chain};
-ghost use Rattle.chain_model.specs.Devices.{ScanFits};
+ghost use Rattle.chain_model.specs.Devices.{ScanFits, run_dr, out_dr};
 ghost use Rattle.chain_model.specs.Boards.{EachHasPins, placed};
 ghost use Rattle.chain_model.specs.Circuits.{devices_of, nets_of};
 
@@ -92,6 +93,38 @@ fn tdo_of_circuit(circuit: &Option<Circuit>, state: Tap) -> bool
     match circuit {
         None => true,
         Some(circuit) => tdo_of_devices(&circuit.devices, state),
+    }
+}
+
+// The lowest bits of a word.
+fn low_bits(n: u32, word: u64) -> u64
+    requires { (1 ≤ n) × (n ≤ 64) }
+    ensures bits { bits_of n result ≡ bits_of n word }
+    ensures bound { result < 2 ^ n }
+{
+    word & (u64::MAX >> (64 - n))
+}
+
+fn shift_circuit(circuit: &mut Option<Circuit>, n: u32, tdi: u64) -> u64
+    requires word { (1 ≤ n) × (n ≤ 64) }
+    requires bound { tdi < 2 ^ n }
+    ensures after { devices_of circuit.new ≡ run_dr (bits_of n tdi) (devices_of circuit.old) }
+    ensures nets { nets_of circuit.new ≡ nets_of circuit.old }
+    ensures out { bits_of n result ≡ out_dr (bits_of n tdi) (devices_of circuit.old) }
+    ensures bound { result < 2 ^ n }
+{
+    match circuit {
+        None => tdi,
+        Some(circuit) => devices::shift_dr_word(&mut circuit.devices, n, tdi),
+    }
+}
+
+fn has_dr_bit(circuit: &Option<Circuit>) -> bool
+    ensures { result ≡ true → 1 ≤ length (joined (dr_stages (devices_of circuit.now))) }
+{
+    match circuit {
+        None => false,
+        Some(circuit) => devices::has_dr_bit(&circuit.devices),
     }
 }
 
@@ -197,6 +230,47 @@ impl ScanChain {
         out
     }
 
+    // Whether each rising edge shifts data stages that have a bit.
+    fn shifts_data(&self) -> bool
+        ensures { result ≡ true → (self.now.state ≡ Tap.ShiftDr) × (1 ≤ length (joined (dr_stages self.now.devices))) }
+    {
+        match self.state {
+            Tap::ShiftDr => has_dr_bit(&self.circuit),
+            _ => false,
+        }
+    }
+
+    // So many cycles with TMS 0 in Shift-DR, uncounted.
+    fn shift_run(&mut self, n: u32, tdi: u64) -> u64
+        requires word { (1 ≤ n) × (n ≤ 64) }
+        requires state { self.old.state ≡ Tap.ShiftDr }
+        requires some { 1 ≤ length (joined (dr_stages self.old.devices)) }
+        ensures after { self.new ≡ after_cycles (clocks_of n 0 tdi) self.old }
+        ensures answers { result ≡ number_of (answers (clocks_of n 0 tdi) self.old) }
+        ensures bound { result < 2 ^ n }
+    {
+        let out = shift_circuit(&mut self.circuit, n, low_bits(n, tdi));
+        let word = out / 2 * 2 + u64::from(self.tdo);
+        self.tdo = tdo_of_circuit(&self.circuit, Tap::ShiftDr);
+        word
+    }
+
+    // The first of so many cycles of TCK, uncounted: how many of them were made, and what these answered.
+    fn piece(&mut self, left: u32, tms: u64, tdi: u64) -> (u32, u64)
+        requires { (1 ≤ left) × (left ≤ 64) }
+        ensures some { 1 ≤ result.0 }
+        ensures few { result.0 ≤ left }
+        ensures after { self.new ≡ after_cycles (clocks_of result.0 tms tdi) self.old }
+        ensures answers { result.1 ≡ number_of (answers (clocks_of result.0 tms tdi) self.old) }
+        ensures bound { result.1 < 2 ^ result.0 }
+    {
+        let shifts = left.min(tms.trailing_zeros());
+        if shifts > 1 && self.shifts_data() {
+            return (shifts, self.shift_run(shifts, tdi));
+        }
+        (1, u64::from(self.cycle(tms % 2 == 1, tdi % 2 == 1)))
+    }
+
     // Cycles of TCK, uncounted: bit i of each word belongs to cycle i.
     fn run_word(&mut self, n: u32, tms: u64, tdi: u64) -> u64
         requires { n ≤ 64 }
@@ -205,13 +279,11 @@ impl ScanChain {
         ensures bound { result < 2 ^ n }
     {
         let mut word = 0;
-        let mut tms_left = tms;
-        let mut tdi_left = tdi;
-        for i in 0..n {
-            let out = self.cycle(tms_left % 2 == 1, tdi_left % 2 == 1);
-            word |= u64::from(out) << i;
-            tms_left /= 2;
-            tdi_left /= 2;
+        let mut at = 0;
+        while at < n {
+            let (count, bits) = self.piece(n - at, tms >> at, tdi >> at);
+            word |= bits << at;
+            at += count;
         }
         word
     }

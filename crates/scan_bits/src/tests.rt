@@ -25,6 +25,15 @@ impl PlainBits {
         }
     }
 
+    fn push_word(&mut self, n: u32, value: u64) -> Result<(), AllocError>
+        requires { n ≤ 64 }
+    {
+        for i in 0..n {
+            self.bits.push((value >> i) & 1 == 1)?;
+        }
+        Ok(())
+    }
+
     fn turn(&mut self, tdi: bool) -> bool {
         let out = self.get(0);
         let count = self.bits.len();
@@ -84,6 +93,16 @@ impl Both {
         })
     }
 
+    fn with_room(alloc: Global, room: usize) -> Result<Both, AllocError> {
+        let packed = Bits::with_room(alloc, room)?;
+        Ok(Both {
+            packed,
+            plain: PlainBits {
+                bits: Vec::new(alloc),
+            },
+        })
+    }
+
     fn are_same(&self) -> bool {
         if self.packed.len() != self.plain.bits.len() {
             return false;
@@ -121,6 +140,29 @@ impl Both {
             self.packed.put_word(at, n, value);
             self.plain.put_word(at, n, value);
         }
+    }
+
+    fn push(&mut self, bit: bool) -> Result<(), AllocError> {
+        if self.packed.len() < self.packed.room() {
+            self.packed.push(bit);
+            self.plain.bits.push(bit)?;
+        }
+        Ok(())
+    }
+
+    fn push_word(&mut self, n: u32, value: u64) -> Result<(), AllocError>
+        requires { n ≤ 64 }
+    {
+        if self.packed.room() - self.packed.len() >= n as usize {
+            self.packed.push_word(n, value);
+            self.plain.push_word(n, value)?;
+        }
+        Ok(())
+    }
+
+    fn clear(&mut self) {
+        self.packed.clear();
+        self.plain.bits.clear();
     }
 
     fn set(&mut self, at: usize, bit: bool) {
@@ -164,6 +206,33 @@ fn compare(alloc: Global, count: usize) -> Result<bool, AllocError> {
         }
     }
     Ok(true)
+}
+
+/// A list that grows from nothing to its room again and again, each time from another start.
+fn compare_growth(alloc: Global, room: usize) -> Result<bool, AllocError> {
+    let mut both = Both::with_room(alloc, room)?;
+    let mut seed = 0x1abcd00f;
+    for i in 0..200u32 {
+        seed = mixed(seed);
+        if i % 11 == 10 {
+            both.clear();
+        }
+        both.push(seed % 3 == 0)?;
+        both.push_word(i % 65, mixed(seed))?;
+        let turned = both.packed.len() == 0 || both.turn_word(1 + i % 64, seed);
+        if !turned || !both.are_same() || both.packed.room() != room {
+            return Ok(false);
+        }
+    }
+    Ok(true)
+}
+
+#[test]
+fn packed_bits_grow_as_plain_bits(rt: HostRuntime) -> Result<(), Fail> {
+    for room in [0, 1, 63, 64, 65, 128, 200, 500] {
+        assert!(rt; compare_growth(rt.alloc(), room)?, "room {room}");
+    }
+    Ok(())
 }
 
 #[test]
