@@ -4,17 +4,17 @@ use Rattle.std.specs.Prelude.{codes}
 use Rattle.std.specs.declared.option.Option.{Option}
 use Rattle.std.specs.declared.option.Option.TheVariants.{Some, None}
 use Rattle.std.specs.List.{list_all}
-use Rattle.std.proofs.lemmas.Bool.{and_parts, and_from, eqb-true, cases_Bool, not-true}
+use Rattle.std.proofs.lemmas.Bool.{and_parts, and_from, eqb-true, not-true}
 use Rattle.std.proofs.lemmas.List.{append-nil}
 use Rattle.bsdl_lex.specs.declared.Token.{Token}
 use Rattle.bsdl_lex.specs.Tokens.{is_letter, is_digit, in_word}
 use Rattle.part_model.specs.declared.plan.Access.{Access}
 use Rattle.bsdl_read.specs.Words.{capital, same_word}
-use Rattle.bsdl_read.specs.Contents.{and_then, is_space, is_short, whole_number, number_from, through, through_all}
-use Rattle.bsdl_read.specs.Accesses.{Entries, at_stage, with_register, with_letter, with_word, with_digit, with_number, with_name, with_entry, behind_register, behind_number, behind_name, whole_name, byte_at, next_byte, closed, no_entries, accesses}
+use Rattle.bsdl_read.specs.Contents.{and_then, is_space, is_short, number_from, through, through_all}
+use Rattle.bsdl_read.specs.Accesses.{Entries, with_word, with_number, behind_register, behind_number, behind_name, next_byte, closed, no_entries, accesses}
 use Rattle.bsdl_read.specs.declared.accesses.AccessStage.{AccessStage}
 use Rattle.bsdl_read.specs.declared.accesses.AccessStage.TheVariants as stage
-use Rattle.bsdl_read.specs.ContentGrammar.{content, Every, are_spaces, Padded, written_padded, IsPadded, is_name, name_of, Joined, followed, written_joined, all_joined, EachJoined, LengthText, written_length, IsLengthText, MayHaveLength, length_of, AccessText, written_access, is_instruction, IsAccessText, access_of, SaysAccesses}
+use Rattle.bsdl_read.specs.ContentGrammar.{content, Every, are_spaces, Padded, written_padded, IsPadded, is_name, name_of, followed, written_joined, LengthText, written_length, IsLengthText, MayHaveLength, length_of, AccessText, written_access, is_instruction, IsAccessText, access_of, SaysAccesses}
 use Rattle.bsdl_read.proofs.Spans.{chosen, bound, through-content, every-snoc, passes-snoc, map-snoc, followed-snoc, snoc-append, blank_no_word, blank_no_number, word_no_blank, letter_no_blank, over_blanks, behind_blanks, run_over}
 
 -- ---- from the stages to the parts

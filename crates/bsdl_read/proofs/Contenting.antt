@@ -1,9 +1,7 @@
 -- Each content says what its parts say, and is refused where it has none.
-use Rattle.std.proofs.Common.{◌≡◌, ℕ, ◌+◌, ◌-◌, ◌*◌, ◌==◌, ◌&&◌, Bool, true, false, inl, inr, if◌then◌else◌, List, [], ◌∷◌, ◌++◌, reverse, Result, Ok, Err, refl, sym, ap, subst, ◌∙◌}
+use Rattle.std.proofs.Common.{◌≡◌, ℕ, ◌+◌, ◌-◌, ◌*◌, ◌==◌, ◌&&◌, Bool, true, false, if◌then◌else◌, List, [], ◌∷◌, ◌++◌, reverse, Result, Ok, Err, refl, sym, ap, subst, ◌∙◌}
 use Rattle.bsdl_lex.specs.declared.Token.{Token}
 use Rattle.bsdl_lex.specs.Tokens.{is_letter, in_word}
-use Rattle.part_model.specs.declared.Digit.{Digit}
-use Rattle.part_model.specs.declared.plan.Opcode.{Opcode}
 use Rattle.bsdl_read.specs.Contents.{and_then, is_space, is_pattern_digit, number_from, through}
 use Rattle.bsdl_read.specs.Opcodes as o
 use Rattle.bsdl_read.specs.declared.opcodes.OpcodeStage.{OpcodeStage}
@@ -13,7 +11,7 @@ use Rattle.bsdl_read.specs.declared.patterns.PatternStage.TheVariants as pattern
 use Rattle.bsdl_read.specs.Accesses as a
 use Rattle.bsdl_read.specs.ContentGrammar.{content, SaysOpcodes, SaysPattern}
 use Rattle.bsdl_read.specs.Laws.{OneContent, OpcodesHaveParts, OpcodesAreRefused, PatternsHaveParts, PatternsAreRefused, AccessesHaveParts, LastDigitIsLowest}
-use Rattle.bsdl_read.proofs.Spans.{chosen, through-content}
+use Rattle.bsdl_read.proofs.Spans.{through-content}
 use Rattle.bsdl_read.proofs.OpcodeParts.{opcodes_have_parts, parts_are_opcodes}
 use Rattle.bsdl_read.proofs.PatternParts.{pattern_has_parts, parts_are_pattern}
 use Rattle.bsdl_read.proofs.AccessParts.{accesses_have_parts, parts_are_accesses}

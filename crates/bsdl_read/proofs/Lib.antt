@@ -9,4 +9,5 @@ pub mod OpcodeParts
 pub mod PatternParts
 pub mod AccessParts
 pub mod Contenting
+pub mod Refusing
 pub mod Answering

@@ -1,5 +1,5 @@
 -- The content of INSTRUCTION_OPCODE: what the stages read, by its parts, and back.
-use Rattle.std.proofs.Common.{◌≡◌, ℕ, ◌==◌, Bool, true, false, ◌⊎◌, inl, inr, List, [], ◌∷◌, ◌++◌, map, reverse, Result, Ok, Err, refl, sym, ap, subst, ◌∙◌, append_assoc}
+use Rattle.std.proofs.Common.{◌≡◌, ℕ, ◌==◌, Bool, true, inl, inr, List, [], ◌∷◌, ◌++◌, map, Result, Ok, refl, sym, ap, subst, ◌∙◌, append_assoc}
 use Rattle.std.specs.List.{list_all}
 use Rattle.std.proofs.lemmas.Bool.{and_parts, and_from, eqb-true}
 use Rattle.std.proofs.lemmas.List.{append-nil}
@@ -9,10 +9,10 @@ use Rattle.part_model.specs.declared.Digit.{Digit}
 use Rattle.part_model.specs.declared.plan.Opcode.{Opcode}
 use Rattle.bsdl_read.specs.Words.{capital}
 use Rattle.bsdl_read.specs.Contents.{and_then, is_space, is_pattern_digit, digit_of, through, through_all}
-use Rattle.bsdl_read.specs.Opcodes.{Entries, at_stage, with_letter, with_digit, with_pattern, with_entry, behind_pattern, behind_name, byte_at, next_byte, is_closed, closed, no_entries, opcodes}
+use Rattle.bsdl_read.specs.Opcodes.{Entries, behind_pattern, behind_name, next_byte, closed, no_entries, opcodes}
 use Rattle.bsdl_read.specs.declared.opcodes.OpcodeStage.{OpcodeStage}
 use Rattle.bsdl_read.specs.declared.opcodes.OpcodeStage.TheVariants as stage
-use Rattle.bsdl_read.specs.ContentGrammar.{content, Every, are_spaces, Padded, written_padded, IsPadded, is_name, is_pattern, name_of, pattern_of, Joined, followed, written_joined, all_joined, EachJoined, OpcodeText, written_opcode, IsOpcodeText, opcode_of, SaysOpcodes}
+use Rattle.bsdl_read.specs.ContentGrammar.{content, Every, are_spaces, Padded, written_padded, IsPadded, is_name, is_pattern, name_of, pattern_of, followed, written_joined, OpcodeText, written_opcode, IsOpcodeText, opcode_of, SaysOpcodes}
 use Rattle.bsdl_read.proofs.Spans.{chosen, bound, through-content, every-snoc, passes-snoc, map-snoc, followed-snoc, snoc-append, blank_no_word, blank_no_digit, word_no_blank, letter_no_blank, over_blanks, behind_blanks, run_over}
 
 -- ---- from the stages to the parts

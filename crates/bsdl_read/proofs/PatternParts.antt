@@ -1,5 +1,5 @@
 -- The content of one pattern, or of several: what the stages read, by its parts, and back.
-use Rattle.std.proofs.Common.{◌≡◌, ℕ, suc, arith, ◌==◌, nat_lt, ◌&&◌, ◌||◌, Bool, true, false, inl, inr, length, List, [], ◌∷◌, ◌++◌, reverse, if◌then◌else◌, Result, Ok, Err, refl, sym, ap, subst, ◌∙◌, append_assoc}
+use Rattle.std.proofs.Common.{◌≡◌, ℕ, suc, arith, ◌==◌, nat_lt, ◌&&◌, ◌||◌, Bool, true, false, inl, inr, length, List, [], ◌∷◌, ◌++◌, reverse, Result, Ok, refl, sym, ap, subst, ◌∙◌, append_assoc}
 use Rattle.std.specs.List.{list_all, list_any}
 use Rattle.std.proofs.lemmas.Bool.{and_parts, and_from, or_cases, or_left, or_right, eqb-true, cases_Bool, lt-ltb}
 use Rattle.std.proofs.lemmas.List.{append-nil}
@@ -9,7 +9,7 @@ use Rattle.part_model.specs.declared.Digit.{Digit}
 use Rattle.bsdl_read.specs.Contents.{and_then, is_space, is_pattern_digit, digit_of, through, through_all}
 use Rattle.bsdl_read.specs.Patterns.{Digits, next_byte, may_join, is_closed, closed, no_digits, pattern}
 use Rattle.bsdl_read.specs.declared.patterns.PatternStage.TheVariants as stage
-use Rattle.bsdl_read.specs.ContentGrammar.{content, followed, Joined, written_joined, is_spaced, is_spaced_pattern, digits_in, written_bytes, first_of, SaysPattern}
+use Rattle.bsdl_read.specs.ContentGrammar.{content, followed, is_spaced, is_spaced_pattern, digits_in, written_bytes, first_of, SaysPattern}
 use Rattle.bsdl_read.proofs.Spans.{chosen, bound, through-content, passes-snoc, followed-snoc, snoc-append, blank_no_digit, run_over}
 
 -- ---- digits among blanks

@@ -8,6 +8,7 @@ use Rattle.part_model.specs.Parts.{DeviceType}
 use Rattle.bsdl_read.specs.declared.structure.Seen.{Seen}
 use Rattle.bsdl_read.specs.Structure.{structure}
 use Rattle.bsdl_read.specs.Grammar.{IsFile}
+use Rattle.bsdl_read.specs.Refusals.{StopsAt, EndsEarly, LacksOne}
 use Rattle.bsdl_read.specs.Contents.{number_from}
 use Rattle.bsdl_read.specs.Opcodes.{opcodes}
 use Rattle.bsdl_read.specs.Patterns.{pattern}
@@ -18,6 +19,12 @@ use Rattle.bsdl_read.specs.Reading.{IsEntity, NoEntity}
 -- tokens have a structure exactly where they are a file by its parts, with the same name, VALUEs and `end`
 abbrev pub FilesHaveParts : Type 0
 FilesHaveParts = (text : List ℕ) (tokens : List Token) (seen : Seen) → (structure text tokens ≡ Ok seen) ↔ IsFile text tokens seen
+
+-- a refusal of the structure is at the token with which no file begins any more, or at the text's end where the tokens end early, or at
+-- `end` where a required attribute is missing; each by its cause
+abbrev pub StructureIsRefused : Type 0
+StructureIsRefused = (text : List ℕ) (tokens : List Token) (at cause : ℕ) → structure text tokens ≡ Err (record { at = at; cause = cause })
+    → StopsAt text tokens at cause ⊎ (EndsEarly text tokens at cause ⊎ LacksOne text tokens at cause)
 
 -- a text says an entity
 pub record SaysOne (text : List ℕ) : Type 0 where

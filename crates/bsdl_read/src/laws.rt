@@ -7,6 +7,12 @@ pub fn files_have_parts()
     ensures { l.FilesHaveParts }
 {}
 
+/// Where the tokens of a text have no structure, a token is refused with which no file begins any more, or the tokens end early, or a
+/// required attribute is missing. Cause 7 is a name of the seven for the second time, 8 stands in an item that is read, and 5 elsewhere.
+pub fn structure_is_refused()
+    ensures { l.StructureIsRefused }
+{}
+
 /// Every text either says an entity or is refused, and never both.
 pub fn entity_or_refusal()
     ensures one { l.OneOfBoth }

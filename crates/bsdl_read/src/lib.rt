@@ -12,5 +12,5 @@ mod structure;
 mod tests;
 mod words;
 
-pub use laws::{contents_have_parts, entity_or_refusal, files_have_parts};
+pub use laws::{contents_have_parts, entity_or_refusal, files_have_parts, structure_is_refused};
 pub use read::{BsdlRefusal, Entity, read_part};
