@@ -66,6 +66,11 @@ module _ (layout : LayoutShape) (is : IsLayout layout) (grant : ℕ) (group : Li
   pub group_within : All (λ place. place < length layout.parts) group
   group_within = subst (All (λ place. place < length layout.parts)) (sym group_is) (all_below (length layout.parts) (group_of layout.grants grant) ((keeps_apart layout is).within grant))
 
+  pub group_low : All (λ place. place < 32) group
+  group_low k d lt =
+      let own : get_or group k d < length layout.parts = group_within k d lt in
+      omega (arith, own, (some_devices layout is).1)
+
   pub group_few : grant < length layout.grants → (1 ≤ length group) × (length group ≤ 32)
   group_few lt =
       let some : group ≢ [] = subst (λ g. g ≢ []) (sym group_is) ((keeps_apart layout is).some grant lt) in

@@ -160,6 +160,7 @@ impl Layout {
         ensures some { (1 ≤ length result.now) × (length result.now ≤ 32) }
         ensures rising { RisesFrom 0 result.now }
         ensures within { All (λ place. place < length self.now.parts) result.now }
+        ensures low { All (λ place. place < 32) result.now }
     {
         self.grants[grant].group.as_slice()
     }

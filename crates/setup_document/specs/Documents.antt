@@ -1,5 +1,5 @@
 -- What a setup file says, or its first refusal, in the order of its text.
-use Rattle.std.specs.Prelude.{◌≡◌, ℕ, nat_lt, List, length, codes, if◌then◌else◌, Result, Ok}
+use Rattle.std.specs.Prelude.{◌≡◌, ◌≤◌, ℕ, nat_lt, List, length, codes, if◌then◌else◌, Result, Ok}
 use Rattle.std.specs.Str.{bytes_eq, is_utf8}
 use Rattle.std.specs.declared.option.Option.{Option}
 use Rattle.std.specs.declared.option.Option.TheVariants.{None, Some}
@@ -120,6 +120,15 @@ of_document (Some members) = and_then (top_keys members) entries
 -- what bytes say as a setup file, or their first refusal
 abbrev pub plan_of : List ℕ → Result SetupPlan DocumentFault
 plan_of bytes = if nat_lt 1048576 (length bytes) then refuse 1 place.Top else of_document (document_of bytes)
+
+-- ---- what every plan has
+
+-- the version and the vector are in their ranges
+pub record InRange (version vector : ℕ) : Type 0 where
+  pub some_version : 1 ≤ version
+  pub no_later : version ≤ 2
+  pub some_vector : 1 ≤ vector
+  pub no_more : vector ≤ 65536
 
 -- ---- what the code answers
 

@@ -28,14 +28,16 @@ struct TopKeys<'a> {
 }
 
 fn version_of(table: &Table) -> Result<u8, DocumentRefusal>
-    ensures { k.Reads (λ version. version) result (d.version_at (table_view table.now)) }
+    ensures is { k.Reads (λ version. version) result (d.version_at (table_view table.now)) }
+    ensures range { IfOk result (λ version. (1 ≤ version) × (version ≤ 2)) }
 {
     let version = number_in(required(table, "version", Place::Top)?, Place::Top, 1, 2)?;
     Ok(version as u8)
 }
 
 fn vector_of(table: &Table) -> Result<u32, DocumentRefusal>
-    ensures { k.Reads (λ vector. vector) result (d.vector_at (get_member (codes "vector") (table_view table.now))) }
+    ensures is { k.Reads (λ vector. vector) result (d.vector_at (get_member (codes "vector") (table_view table.now))) }
+    ensures range { IfOk result (λ vector. (1 ≤ vector) × (vector ≤ 65536)) }
 {
     match member_at(table, "vector") {
         Some(value) => number_in(value, Place::Top, 1, 65536),
@@ -59,7 +61,8 @@ fn nets_of(table: &Table) -> Result<&[Value], DocumentRefusal>
 }
 
 fn top_keys(table: &Table) -> Result<TopKeys<'_>, DocumentRefusal>
-    ensures { k.Reads d.top_of result (d.top_keys (table_view table.now)) }
+    ensures is { k.Reads d.top_of result (d.top_keys (table_view table.now)) }
+    ensures ranges { IfOk result (λ top. d.InRange top.version top.vector) }
 {
     let table = known(table, Place::Top)?;
     Ok(TopKeys {
@@ -106,7 +109,8 @@ fn nets(alloc: Global, values: &[Value]) -> Result<Items<Net>, DocumentRefusal>
 
 // The plan of a table.
 fn read_table(alloc: Global, table: &Table) -> Result<SetupPlan, DocumentRefusal>
-    ensures { k.Reads (λ plan. plan) result (k.and_then (d.top_keys (table_view table.now)) d.entries) }
+    ensures is { k.Reads (λ plan. plan) result (k.and_then (d.top_keys (table_view table.now)) d.entries) }
+    ensures ranges { IfOk result (λ plan. d.InRange plan.version plan.vector) }
 {
     let top = top_keys(table)?;
     Ok(SetupPlan {
@@ -136,6 +140,7 @@ fn document(alloc: Global, bytes: &[u8]) -> Result<Table, DocumentRefusal>
 pub fn read_document(alloc: Global, bytes: &[u8]) -> Result<SetupPlan, DocumentRefusal>
     ensures ok { IfOk result (λ plan. d.plan_of bytes.now ≡ Ok plan) }
     ensures refused { IfErr result (λ refusal. k.RefusesAs refusal (d.plan_of bytes.now)) }
+    ensures ranges { IfOk result (λ plan. d.InRange plan.version plan.vector) }
 {
     if bytes.len() > LONGEST {
         return Err(refused(1, Place::Top));

@@ -1,11 +1,11 @@
 -- The assembly of the chain stands before the session: what is said of the chain afterwards is said of the bench from the start.
-use Rattle.std.proofs.Common.{◌≡◌, ◌⊎◌, ℕ, List, inl, inr}
+use Rattle.std.proofs.Common.{ℕ, List, inl, inr}
 use Rattle.std.specs.declared.option.Option.{Option}
 use Rattle.std.specs.declared.option.Option.TheVariants.{Some, None}
 use Rattle.base_types.specs.Tellings.{Told, Both}
 use Rattle.chain_model.specs.Chains.{ChainState}
 use Rattle.client_session.specs.declared.End.{End}
-use Rattle.share_top.specs.Commands.{Closes, Waits, Stops, Served, Refuses, RunsLong, Unread, Breaks, Untouched, IsFault}
+use Rattle.share_top.specs.Commands.{Closes, Stops, IsFault}
 use Rattle.share_top.specs.Outcomes.{Pipes}
 use Rattle.share_top.specs.declared.outcome.Outcome.{Outcome}
 use Rattle.share_top.specs.declared.outcome.Outcome.TheVariants.{Done, Refused, Words, ReadFault, WriteFault, CableFault, Long, Memory}

@@ -3,3 +3,5 @@ pub mod Demo
 pub mod Commands
 pub mod Sessions
 pub mod Outcomes
+pub mod Checks
+pub mod Printed

@@ -3,8 +3,10 @@
 
 mod answer;
 mod command;
+mod line;
 mod outcome;
 mod pipe;
+mod print;
 mod session;
 mod shift;
 

@@ -1,7 +1,7 @@
 use Rattle.std.proofs.Common.{◌∙◌, sym, ap, subst, arith, length}
 use Rattle.grant_table.specs.Layouts.{LayoutShape, GrantShape, group_of}
 use Rattle.grant_table.specs.Faults.{IsLayout}
-use Rattle.grant_table.proofs.Shapes.{group_at, group_rises, group_within, group_few}
+use Rattle.grant_table.proofs.Shapes.{group_at, group_rises, group_within, group_few, group_low}
 use Rattle.grant_table.proofs.layout.Layout.group.Goals as goal
 
 pub returns-clause-is : goal.returns-clause-is
@@ -18,3 +18,6 @@ returns-clause-within c = group_within c.args.self.now (subst IsLayout c.self.vi
 
 pub returns-clause-some : goal.returns-clause-some
 returns-clause-some c = group_few c.args.self.now (subst IsLayout c.self.view_is c.self.invariant.is) c.args.grant c.as_slice.result.now (returns-clause-is c) c.requires
+
+pub returns-clause-low : goal.returns-clause-low
+returns-clause-low c = group_low c.args.self.now (subst IsLayout c.self.view_is c.self.invariant.is) c.args.grant c.as_slice.result.now (returns-clause-is c)
