@@ -1,5 +1,5 @@
 -- The content of REGISTER_ACCESS: what the stages read, by its parts, and back.
-use Rattle.std.proofs.Common.{◌≡◌, ℕ, ◌==◌, nat_lt, ◌&&◌, not, Bool, true, false, inl, inr, length, List, [], ◌∷◌, ◌++◌, map, Result, Ok, Err, refl, sym, ap, subst, ◌∙◌, append_assoc}
+use Rattle.std.proofs.Common.{◌≡◌, ℕ, ◌==◌, nat_lt, ◌&&◌, not, Bool, true, false, ◌⊎◌, inl, inr, if◌then◌else◌, length, List, [], ◌∷◌, ◌++◌, map, Result, Ok, Err, refl, sym, ap, subst, ◌∙◌, append_assoc}
 use Rattle.std.specs.Prelude.{codes}
 use Rattle.std.specs.declared.option.Option.{Option}
 use Rattle.std.specs.declared.option.Option.TheVariants.{Some, None}
@@ -11,11 +11,11 @@ use Rattle.bsdl_lex.specs.Tokens.{is_letter, is_digit, in_word}
 use Rattle.part_model.specs.declared.plan.Access.{Access}
 use Rattle.bsdl_read.specs.Words.{capital, same_word}
 use Rattle.bsdl_read.specs.Contents.{and_then, is_space, is_short, number_from, through, through_all}
-use Rattle.bsdl_read.specs.Accesses.{Entries, with_word, with_number, behind_register, behind_number, behind_name, next_byte, closed, no_entries, accesses}
+use Rattle.bsdl_read.specs.Accesses.{Entries, with_number, behind_register, behind_number, behind_name, next_byte, closed, no_entries, accesses, word_cause, name_cause, with_digit}
 use Rattle.bsdl_read.specs.declared.accesses.AccessStage.{AccessStage}
 use Rattle.bsdl_read.specs.declared.accesses.AccessStage.TheVariants as stage
-use Rattle.bsdl_read.specs.ContentGrammar.{content, Every, are_spaces, Padded, written_padded, IsPadded, is_name, name_of, followed, written_joined, LengthText, written_length, IsLengthText, MayHaveLength, length_of, AccessText, written_access, is_instruction, IsAccessText, access_of, SaysAccesses}
-use Rattle.bsdl_read.proofs.Spans.{chosen, bound, through-content, every-snoc, passes-snoc, map-snoc, followed-snoc, snoc-append, blank_no_word, blank_no_number, word_no_blank, letter_no_blank, over_blanks, behind_blanks, run_over}
+use Rattle.bsdl_read.specs.ContentGrammar.{content, Every, are_spaces, Padded, written_padded, IsPadded, is_name, name_of, followed, written_joined, LengthText, written_length, IsLengthText, MayHaveLength, length_of, AccessText, written_access, is_instruction, IsAccessText, access_of, SaysAccesses, LeftOut, NamesLeftOut}
+use Rattle.bsdl_read.proofs.Spans.{chosen, bound, through-content, every-snoc, passes-snoc, map-snoc, followed-snoc, snoc-append, blank_no_word, blank_no_number, word_no_blank, letter_no_blank, over_blanks, behind_blanks, run_over, run_stops, begun, IsBegun, named, more_blanks, padded_more, still_padded}
 
 -- ---- from the stages to the parts
 
@@ -41,9 +41,6 @@ record Read : Type 0 where
 
 abbrev parts : List AccessText → Front → Read
 parts entries front = record { entries = entries; front = front }
-
-abbrev begun : List ℕ → ℕ → List ℕ → List ℕ → List ℕ
-begun before first more rest = before ++ ((first ∷ more) ++ rest)
 
 abbrev in_list : Padded → Option LengthText → List Padded → List ℕ → List ℕ
 in_list register length names rest = written_padded register (written_length length (40 ∷ followed written_padded names rest))
@@ -88,13 +85,16 @@ state_of done (Front.Ended entry) = with_parts stage.Closed (done ++ access_of e
 abbrev state : Read → Entries
 state r = state_of (map access_of r.entries) r.front
 
-abbrev IsBegun : (ℕ → Bool) → (ℕ → Bool) → List ℕ → ℕ → List ℕ → Type 0
-IsBegun is_first in_rest before first more = (are_spaces before ≡ true) × (is_first first ≡ true) × (list_all in_rest more ≡ true)
-
 record InList (register : Padded) (length : Option LengthText) (names : List Padded) : Type 0 where
   has_register : IsPadded is_name register
   has_length : MayHaveLength length
   has_names : Every (IsPadded is_instruction) names
+
+-- a name stands last
+abbrev IsBehind : Front → Type 0
+IsBehind (Front.BehindRegister register) = Unit {0}
+IsBehind (Front.BehindName register length names last) = Unit {0}
+IsBehind _ = ⊥
 
 abbrev IsFront : Front → Type 0
 IsFront (Front.AtEntry before) = are_spaces before ≡ true
@@ -107,7 +107,7 @@ IsFront (Front.Bracketed register length) = IsPadded is_name register × IsLengt
 IsFront (Front.AtName register length names before) = InList register length names × (are_spaces before ≡ true)
 IsFront (Front.InName register length names before first more) = InList register length names × IsBegun is_letter in_word before first more
 IsFront (Front.BehindName register length names last) = InList register length names × IsPadded is_instruction last
-IsFront (Front.InWord front word) = Unit {0}
+IsFront (Front.InWord front word) = IsFront front × IsBehind front
 IsFront (Front.Ended entry) = IsAccessText entry
 
 record IsRead (r : Read) : Type 0 where
@@ -137,25 +137,13 @@ grown entries front next byte after all is_front is same = record {
   same = λ rest. ap (followed written_access entries) (same rest);
 }
 
-abbrev named : List ℕ → ℕ → List ℕ → Padded
-named before first more = record { before = before; inside = first ∷ more; behind = [] }
-
-abbrev more_blanks : Padded → ℕ → Padded
-more_blanks p byte = record { before = p.before; inside = p.inside; behind = p.behind ++ byte ∷ [] }
-
-padded_more : (p : Padded) (byte : ℕ) (rest : List ℕ) → written_padded p (byte ∷ rest) ≡ written_padded (more_blanks p byte) rest
-padded_more p byte rest = ap (λ (x : List ℕ). p.before ++ (p.inside ++ x)) (snoc-append p.behind byte rest)
-
-still_padded : (is : List ℕ → Bool) (p : Padded) (byte : ℕ) → IsPadded is p → is_space byte ≡ true → IsPadded is (more_blanks p byte)
-still_padded is p byte padded blank = record { blank_before = padded.blank_before; is_inside = padded.is_inside; blank_behind = passes-snoc is_space p.behind byte padded.blank_behind blank }
-
 is_named : (before : List ℕ) (first : ℕ) (more : List ℕ) → IsBegun is_letter in_word before first more → IsPadded is_name (named before first more)
 is_named before first more fine = record { blank_before = fine.0; is_inside = and_from (is_letter first) (list_all in_word more) fine.1 fine.2; blank_behind = refl }
 
 register_leads : (entries : List AccessText) (front : Front) (st : AccessStage) (register : Padded) (byte : ℕ) (after : Entries) → Every IsAccessText entries → IsPadded is_name register
-    → state_of (map access_of entries) front ≡ with_parts st (map access_of entries) (name_of register) None [] [] [] → ((rest : List ℕ) → written_front front rest ≡ written_padded register rest)
+    → ((rest : List ℕ) → written_front front rest ≡ written_padded register rest)
     → behind_register (with_parts st (map access_of entries) (name_of register) None [] [] []) byte ≡ Ok after → Leads (parts entries front) byte after
-register_leads entries front st register byte after all fine state_is same is = elim (chosen (is_space byte) _ _ _ is) [
+register_leads entries front st register byte after all fine same is = elim (chosen (is_space byte) _ _ _ is) [
   | inl a ↦ grown entries front (Front.BehindRegister (more_blanks register byte)) byte after all (still_padded is_name register byte fine a.0) (same_ok _ _ a.1) (λ rest. same (byte ∷ rest) ∙ padded_more register byte rest)
   | inr b ↦ elim (chosen (byte == 91) _ _ _ b.1) [
     | inl c ↦ grown entries front (Front.AtNumber register []) byte after all (fine, refl) (same_ok _ _ c.1) (λ rest. same (byte ∷ rest) ∙ ap (λ (x : ℕ). written_padded register (x ∷ rest)) (eqb-true byte 91 c.0))
@@ -163,7 +151,7 @@ register_leads entries front st register byte after all fine state_is same is = 
       | inl e ↦ grown entries front (Front.AtName register None [] []) byte after all (record { has_register = fine; has_length = tt; has_names = tt }, refl) (same_ok _ _ e.1)
           (λ rest. same (byte ∷ rest) ∙ ap (λ (x : ℕ). written_padded register (x ∷ rest)) (eqb-true byte 40 e.0))
       | inr f ↦ elim (chosen (is_letter byte) _ _ _ f.1) [
-        | inl g ↦ grown entries front (Front.InWord front (byte ∷ [])) byte after all tt (ap (λ (e : Entries). with_word e byte) state_is ∙ same_ok _ _ g.1) (λ rest. refl)
+        | inl g ↦ grown entries front (Front.InWord (Front.BehindRegister register) (byte ∷ [])) byte after all (fine, tt) (same_ok _ _ g.1) (λ rest. same (byte ∷ rest))
         | inr h ↦ absurd (cc h.1)
       ]
     ]
@@ -197,10 +185,9 @@ number_leads entries register before first more byte after all fine blank is = e
 
 name_leads : (entries : List AccessText) (front : Front) (st : AccessStage) (register : Padded) (length : Option LengthText) (names : List Padded) (last : Padded) (byte : ℕ) (after : Entries) → Every IsAccessText entries
     → InList register length names → IsPadded is_instruction last
-    → state_of (map access_of entries) front ≡ with_parts st (map access_of entries) (name_of register) (length_of length) [] (name_of last) (map name_of names)
     → ((rest : List ℕ) → written_front front rest ≡ in_list register length names (written_padded last rest))
     → behind_name (with_parts st (map access_of entries) (name_of register) (length_of length) [] (name_of last) (map name_of names)) byte ≡ Ok after → Leads (parts entries front) byte after
-name_leads entries front st register length names last byte after all in_it fine state_is same is = elim (chosen (is_space byte) _ _ _ is) [
+name_leads entries front st register length names last byte after all in_it fine same is = elim (chosen (is_space byte) _ _ _ is) [
   | inl a ↦ grown entries front (Front.BehindName register length names (more_blanks last byte)) byte after all (in_it, still_padded is_instruction last byte fine a.0) (same_ok _ _ a.1)
       (λ rest. same (byte ∷ rest) ∙ ap (in_list register length names) (padded_more last byte rest))
   | inr b ↦ elim (chosen (byte == 44) _ _ _ b.1) [
@@ -214,7 +201,7 @@ name_leads entries front st register length names last byte after all in_it fine
           (record { has_register = in_it.has_register; has_length = in_it.has_length; has_instructions = record { each_first = in_it.has_names; is_last = fine }; blank_behind = refl }) (same_ok _ _ f.1)
           (λ rest. same (byte ∷ rest) ∙ ap (λ (x : ℕ). in_list register length names (written_padded last (x ∷ rest))) (eqb-true byte 41 f.0))
       | inr g ↦ elim (chosen (is_letter byte) _ _ _ g.1) [
-        | inl h ↦ grown entries front (Front.InWord front (byte ∷ [])) byte after all tt (ap (λ (e : Entries). with_word e byte) state_is ∙ same_ok _ _ h.1) (λ rest. refl)
+        | inl h ↦ grown entries front (Front.InWord (Front.BehindName register length names last) (byte ∷ [])) byte after all ((in_it, fine), tt) (same_ok _ _ h.1) (λ rest. same (byte ∷ rest))
         | inr k ↦ absurd (cc k.1)
       ]
     ]
@@ -234,9 +221,9 @@ front_leads entries (Front.InRegister before first more) byte after all fine is 
   | inl a ↦ grown entries (Front.InRegister before first more) (Front.InRegister before first (more ++ byte ∷ [])) byte after all (fine.0, fine.1, passes-snoc in_word more byte fine.2 a.0)
       (ap (λ (n : List ℕ). with_parts stage.Register (map access_of entries) (capital first ∷ n) None [] [] []) (map-snoc capital more byte) ∙ same_ok _ _ a.1)
       (λ rest. ap (λ (x : List ℕ). before ++ (first ∷ x)) (snoc-append more byte rest))
-  | inr b ↦ register_leads entries (Front.InRegister before first more) stage.Register (named before first more) byte after all (is_named before first more fine) refl (λ rest. refl) b.1
+  | inr b ↦ register_leads entries (Front.InRegister before first more) stage.Register (named before first more) byte after all (is_named before first more fine) (λ rest. refl) b.1
 ]
-front_leads entries (Front.BehindRegister register) byte after all fine is = register_leads entries (Front.BehindRegister register) stage.Registered register byte after all fine refl (λ rest. refl) is
+front_leads entries (Front.BehindRegister register) byte after all fine is = register_leads entries (Front.BehindRegister register) stage.Registered register byte after all fine (λ rest. refl) is
 front_leads entries (Front.AtNumber register before) byte after all fine is = elim (chosen (is_space byte) _ _ _ is) [
   | inl a ↦ grown entries (Front.AtNumber register before) (Front.AtNumber register (before ++ byte ∷ [])) byte after all (fine.0, passes-snoc is_space before byte fine.1 a.0) (same_ok _ _ a.1)
       (λ rest. ap (λ (x : List ℕ). written_padded register (91 ∷ x)) (snoc-append before byte rest))
@@ -287,12 +274,12 @@ front_leads entries (Front.InName register length names before first more) byte 
     | inr d ↦
         let p = is_named before first more fine.1 in
         name_leads entries (Front.InName register length names before first more) stage.Name register length names (named before first more) byte after all fine.0
-        (record { blank_before = p.blank_before; is_inside = and_from (is_name (first ∷ more)) (not (same_word (map capital (first ∷ more)) (codes "RUNBIST"))) p.is_inside (rw d.0 refl); blank_behind = refl }) refl (λ rest. refl) d.1
+        (record { blank_before = p.blank_before; is_inside = and_from (is_name (first ∷ more)) (not (same_word (map capital (first ∷ more)) (codes "RUNBIST"))) p.is_inside (rw d.0 refl); blank_behind = refl }) (λ rest. refl) d.1
   ]
 ]
-front_leads entries (Front.BehindName register length names last) byte after all fine is = name_leads entries (Front.BehindName register length names last) stage.Named register length names last byte after all fine.0 fine.1 refl (λ rest. refl) is
+front_leads entries (Front.BehindName register length names last) byte after all fine is = name_leads entries (Front.BehindName register length names last) stage.Named register length names last byte after all fine.0 fine.1 (λ rest. refl) is
 front_leads entries (Front.InWord front word) byte after all fine is = elim (chosen (in_word byte) _ _ _ is) [
-  | inl a ↦ grown entries (Front.InWord front word) (Front.InWord front (word ++ byte ∷ [])) byte after all tt
+  | inl a ↦ grown entries (Front.InWord front word) (Front.InWord front (word ++ byte ∷ [])) byte after all fine
       (ap (λ (n : List ℕ). record (state_of (map access_of entries) front) { stage = stage.Word; name = n }) (map-snoc capital word byte) ∙ same_ok _ _ a.1) (λ rest. ap (written_front front) (snoc-append word byte rest))
   | inr b ↦ absurd (cc b.1)
 ]
@@ -459,3 +446,148 @@ parts_are_accesses text tokens found says =
     (through-content next_byte text no_entries tokens ∙ ap (through next_byte no_entries) says.are ∙ entries_go [] says.entries.firsts (written_access says.entries.last []) says.forms.each_first
     ∙ entry_goes (map access_of says.entries.firsts) says.entries.last [] says.forms.is_last)
     ∙ ap found_result (sym says.says)
+
+-- ---- what is left out of the subset
+
+-- ---- the causes 8 and 9
+
+-- the part that is open where cause 9 comes
+abbrev Leaves : Front → Type 0
+Leaves (Front.InName register length names before first more) = same_word (map capital (first ∷ more)) (codes "RUNBIST") ≡ true
+Leaves (Front.InWord front word) = same_word (map capital word) (codes "CAPTURES") ≡ true
+Leaves _ = ⊥
+
+-- a refusal has cause 8, or 9 for a reason
+abbrev Reason : Type 0 → ℕ → Type 0
+Reason Why cause = (cause ≡ 8) ⊎ ((cause ≡ 9) × Why)
+
+abbrev Causes : {A : Type 0} → Type 0 → Result A ℕ → Type 0
+Causes Why (Ok x) = Unit {0}
+Causes Why (Err cause) = Reason Why cause
+
+either : {A : Type 0} (Why : Type 0) (test : Bool) (x y : Result A ℕ) → Causes Why x → Causes Why y → Causes Why (if test then x else y)
+either Why true x y one other = one
+either Why false x y one other = other
+
+two : (Why : Type 0) (a b : Bool) (x y : Entries) → Causes Why (if a then fine_result x else (if b then fine_result y else Err 8))
+two Why a b x y = either Why a (fine_result x) (if b then fine_result y else Err 8) tt (either Why b (fine_result y) (Err 8) tt (inl refl))
+
+four : (Why : Type 0) (a b c d : Bool) (x y z w : Entries) → Causes Why (if a then fine_result x else (if b then fine_result y else (if c then fine_result z else (if d then fine_result w else Err 8))))
+four Why a b c d x y z w = either Why a (fine_result x) (if b then fine_result y else (if c then fine_result z else (if d then fine_result w else Err 8))) tt
+    (either Why b (fine_result y) (if c then fine_result z else (if d then fine_result w else Err 8)) tt (two Why c d z w))
+
+abbrev whole : ℕ → Result ℕ ℕ
+whole n = Ok n
+
+number_causes : (Why : Type 0) (e : Entries) (next : AccessStage) → Causes Why (with_number e next)
+number_causes Why e next = by (is_short e.number)
+  where
+    by : (t : Bool) → Causes Why (and_then (if t then whole (number_from 0 e.number) else Err 8) (λ value. fine_result (record e { stage = next; length = Some value; number = [] })))
+    by true = tt
+    by false = inl refl
+
+word_causes : (word : List ℕ) → Reason (same_word word (codes "CAPTURES") ≡ true) (word_cause word)
+word_causes word = by (same_word word (codes "CAPTURES"))
+  where
+    by : (t : Bool) → Reason (t ≡ true) (if t then 9 else 8)
+    by true = inr (refl, refl)
+    by false = inl refl
+
+name_causes : (name : List ℕ) → Reason (same_word name (codes "RUNBIST") ≡ true) (name_cause name)
+name_causes name = by (same_word name (codes "RUNBIST"))
+  where
+    by : (t : Bool) → Reason (t ≡ true) (if t then 9 else 8)
+    by true = inr (refl, refl)
+    by false = inl refl
+
+runbist_causes : (test : Bool) (other : Result Entries ℕ) → Causes (test ≡ true) other → Causes (test ≡ true) (if test then Err 9 else other)
+runbist_causes true other causes = inr (refl, refl)
+runbist_causes false other causes = causes
+
+byte_causes : (done : List Access) (front : Front) (byte : ℕ) → Causes (Leaves front) (next_byte (state_of done front) byte)
+byte_causes done (Front.AtEntry before) byte = two ⊥ (is_space byte) (is_letter byte) _ _
+byte_causes done (Front.InRegister before first more) byte = either ⊥ (in_word byte) _ _ tt (four ⊥ (is_space byte) (byte == 91) (byte == 40) (is_letter byte) _ _ _ _)
+byte_causes done (Front.BehindRegister register) byte = four ⊥ (is_space byte) (byte == 91) (byte == 40) (is_letter byte) _ _ _ _
+byte_causes done (Front.AtNumber register before) byte = two ⊥ (is_space byte) (is_digit byte) _ _
+byte_causes done (Front.InNumber register before first more) byte =
+    let e = with_parts stage.Number done (name_of register) None (first ∷ more) [] [] in
+    either ⊥ (is_digit byte) (fine_result (with_digit e byte)) (behind_number e byte) tt
+    (either ⊥ (is_space byte) (with_number e stage.Numbered) (if byte == 93 then with_number e stage.Bracketed else Err 8) (number_causes ⊥ e stage.Numbered) (either ⊥ (byte == 93) (with_number e stage.Bracketed) (Err 8) (number_causes ⊥ e stage.Bracketed) (inl refl)))
+byte_causes done (Front.BehindNumber register number) byte = two ⊥ (is_space byte) (byte == 93) _ _
+byte_causes done (Front.Bracketed register length) byte = two ⊥ (is_space byte) (byte == 40) _ _
+byte_causes done (Front.AtName register length names before) byte = two ⊥ (is_space byte) (is_letter byte) _ _
+byte_causes done (Front.InName register length names before first more) byte =
+    let runbist = same_word (map capital (first ∷ more)) (codes "RUNBIST") in
+    either (runbist ≡ true) (in_word byte) _ _ tt (runbist_causes runbist _ (four (runbist ≡ true) (is_space byte) (byte == 44) (byte == 41) (is_letter byte) _ _ _ _))
+byte_causes done (Front.BehindName register length names last) byte = four ⊥ (is_space byte) (byte == 44) (byte == 41) (is_letter byte) _ _ _ _
+byte_causes done (Front.InWord front word) byte = either (same_word (map capital word) (codes "CAPTURES") ≡ true) (in_word byte) _ _ tt (word_causes (map capital word))
+byte_causes done (Front.Ended entry) byte = two ⊥ (is_space byte) (byte == 44) _ _
+
+end_causes : (done : List Access) (front : Front) → Causes (Leaves front) (closed (state_of done front))
+end_causes done (Front.AtEntry before) = inl refl
+end_causes done (Front.InRegister before first more) = inl refl
+end_causes done (Front.BehindRegister register) = inl refl
+end_causes done (Front.AtNumber register before) = inl refl
+end_causes done (Front.InNumber register before first more) = inl refl
+end_causes done (Front.BehindNumber register number) = inl refl
+end_causes done (Front.Bracketed register length) = inl refl
+end_causes done (Front.AtName register length names before) = inl refl
+end_causes done (Front.InName register length names before first more) = name_causes (map capital (first ∷ more))
+end_causes done (Front.BehindName register length names last) = inl refl
+end_causes done (Front.InWord front word) = word_causes (map capital word)
+end_causes done (Front.Ended entry) = tt
+
+leaves_out : (entries : List AccessText) (front : Front) (rest : List ℕ) → Every IsAccessText entries → IsFront front → Leaves front → NamesLeftOut (written_read (parts entries front) rest)
+leaves_out entries (Front.AtEntry before) rest all fine why = absurd why
+leaves_out entries (Front.InRegister before first more) rest all fine why = absurd why
+leaves_out entries (Front.BehindRegister register) rest all fine why = absurd why
+leaves_out entries (Front.AtNumber register before) rest all fine why = absurd why
+leaves_out entries (Front.InNumber register before first more) rest all fine why = absurd why
+leaves_out entries (Front.BehindNumber register number) rest all fine why = absurd why
+leaves_out entries (Front.Bracketed register length) rest all fine why = absurd why
+leaves_out entries (Front.AtName register length names before) rest all fine why = absurd why
+leaves_out entries (Front.InName register length names before first more) rest all fine why =
+    record { entries = entries; part = LeftOut.Instruction register length names before (first ∷ more); rest = rest; are = refl; each = all; is_left_out = why }
+leaves_out entries (Front.BehindName register length names last) rest all fine why = absurd why
+leaves_out entries (Front.InWord (Front.BehindRegister register) word) rest all fine why =
+    record { entries = entries; part = LeftOut.BehindRegister register word; rest = rest; are = refl; each = all; is_left_out = why }
+leaves_out entries (Front.InWord (Front.BehindName register length names last) word) rest all fine why =
+    record { entries = entries; part = LeftOut.BehindInstruction register length names last word; rest = rest; are = refl; each = all; is_left_out = why }
+leaves_out entries (Front.InWord (Front.AtEntry before) word) rest all fine why = absurd fine.1
+leaves_out entries (Front.InWord (Front.InRegister before first more) word) rest all fine why = absurd fine.1
+leaves_out entries (Front.InWord (Front.AtNumber register before) word) rest all fine why = absurd fine.1
+leaves_out entries (Front.InWord (Front.InNumber register before first more) word) rest all fine why = absurd fine.1
+leaves_out entries (Front.InWord (Front.BehindNumber register number) word) rest all fine why = absurd fine.1
+leaves_out entries (Front.InWord (Front.Bracketed register length) word) rest all fine why = absurd fine.1
+leaves_out entries (Front.InWord (Front.AtName register length names before) word) rest all fine why = absurd fine.1
+leaves_out entries (Front.InWord (Front.InName register length names before first more) word) rest all fine why = absurd fine.1
+leaves_out entries (Front.InWord (Front.InWord front inner) word) rest all fine why = absurd fine.1
+leaves_out entries (Front.InWord (Front.Ended entry) word) rest all fine why = absurd fine.1
+leaves_out entries (Front.Ended entry) rest all fine why = absurd why
+
+-- the bytes lead to a refusal of this cause
+abbrev Explained : List ℕ → ℕ → Type 0
+Explained bytes cause = (cause ≡ 8) ⊎ ((cause ≡ 9) × NamesLeftOut bytes)
+
+explained : {A : Type 0} (r : Read) (rest : List ℕ) (result : Result A ℕ) (cause : ℕ) → IsRead r → Causes (Leaves r.front) result → result ≡ Err cause → Explained (written_read r rest) cause
+explained {A = A} r rest result cause fine causes is = by (subst (Causes {A = A} (Leaves r.front)) is causes)
+  where
+    by : (cause ≡ 8) ⊎ ((cause ≡ 9) × Leaves r.front) → Explained (written_read r rest) cause
+    by (inl eight) = inl eight
+    by (inr nine) = inr (nine.0, leaves_out r.entries r.front rest fine.are_entries fine.is_front nine.1)
+
+pub accesses_refused : (text : List ℕ) (tokens : List Token) (cause : ℕ) → accesses text tokens ≡ Err cause → (cause ≡ 8) ⊎ ((cause ≡ 9) × NamesLeftOut (content text tokens))
+accesses_refused text tokens cause is = by (through next_byte no_entries (content text tokens)) refl (sym (ap (λ (r : Result Entries ℕ). and_then r closed) (through-content next_byte text no_entries tokens)) ∙ is)
+  where
+    start : Read
+    start = parts [] (Front.AtEntry [])
+
+    by : (r : Result Entries ℕ) → through next_byte no_entries (content text tokens) ≡ r → and_then r closed ≡ Err cause → Explained (content text tokens) cause
+    by (Ok e) runs ends =
+        let o = run_over next_byte state written_read IsRead step_leads (content text tokens) start e (record { are_entries = tt; is_front = refl }) runs in
+        subst (λ (bytes : List ℕ). Explained bytes cause) (sym o.3) (explained o.0 [] (closed (state o.0)) cause o.1 (end_causes (map access_of o.0.entries) o.0.front) (ap closed o.2 ∙ ends))
+    by (Err other) runs ends =
+        let same : other ≡ cause = cc ends in
+        let o = run_stops next_byte state written_read IsRead step_leads (content text tokens) start other (record { are_entries = tt; is_front = refl }) runs in
+        subst (λ (bytes : List ℕ). Explained bytes cause) (sym o.5)
+        (subst (λ (n : ℕ). Explained (written_read o.0 (o.1 ∷ o.2)) n) same (explained o.0 (o.1 ∷ o.2) (next_byte (state o.0) o.1) other o.3 (byte_causes (map access_of o.0.entries) o.0.front o.1) o.4))

@@ -1,10 +1,10 @@
 pub mod Going
 pub mod Forms
 pub mod Bytes
+pub mod Spans
 pub mod Patterned
 pub mod Filing
 pub mod Parting
-pub mod Spans
 pub mod OpcodeParts
 pub mod PatternParts
 pub mod AccessParts

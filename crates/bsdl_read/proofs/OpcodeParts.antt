@@ -1,5 +1,5 @@
 -- The content of INSTRUCTION_OPCODE: what the stages read, by its parts, and back.
-use Rattle.std.proofs.Common.{◌≡◌, ℕ, ◌==◌, Bool, true, inl, inr, List, [], ◌∷◌, ◌++◌, map, Result, Ok, refl, sym, ap, subst, ◌∙◌, append_assoc}
+use Rattle.std.proofs.Common.{◌≡◌, ℕ, ◌==◌, true, inl, inr, List, [], ◌∷◌, ◌++◌, map, Result, Ok, refl, sym, ap, subst, ◌∙◌, append_assoc}
 use Rattle.std.specs.List.{list_all}
 use Rattle.std.proofs.lemmas.Bool.{and_parts, and_from, eqb-true}
 use Rattle.std.proofs.lemmas.List.{append-nil}
@@ -13,7 +13,7 @@ use Rattle.bsdl_read.specs.Opcodes.{Entries, behind_pattern, behind_name, next_b
 use Rattle.bsdl_read.specs.declared.opcodes.OpcodeStage.{OpcodeStage}
 use Rattle.bsdl_read.specs.declared.opcodes.OpcodeStage.TheVariants as stage
 use Rattle.bsdl_read.specs.ContentGrammar.{content, Every, are_spaces, Padded, written_padded, IsPadded, is_name, is_pattern, name_of, pattern_of, followed, written_joined, OpcodeText, written_opcode, IsOpcodeText, opcode_of, SaysOpcodes}
-use Rattle.bsdl_read.proofs.Spans.{chosen, bound, through-content, every-snoc, passes-snoc, map-snoc, followed-snoc, snoc-append, blank_no_word, blank_no_digit, word_no_blank, letter_no_blank, over_blanks, behind_blanks, run_over}
+use Rattle.bsdl_read.proofs.Spans.{chosen, bound, through-content, every-snoc, passes-snoc, map-snoc, followed-snoc, snoc-append, blank_no_word, blank_no_digit, word_no_blank, letter_no_blank, over_blanks, behind_blanks, run_over, begun, IsBegun, named, more_blanks, padded_more, still_padded}
 
 -- ---- from the stages to the parts
 
@@ -34,9 +34,6 @@ record Read : Type 0 where
 
 abbrev parts : List OpcodeText → Front → Read
 parts entries front = record { entries = entries; front = front }
-
-abbrev begun : List ℕ → ℕ → List ℕ → List ℕ → List ℕ
-begun before first more rest = before ++ ((first ∷ more) ++ rest)
 
 abbrev in_list : Padded → List Padded → List ℕ → List ℕ
 in_list name patterns rest = written_padded name (40 ∷ followed written_padded patterns rest)
@@ -67,9 +64,6 @@ state_of done (Front.Ended entry) = with_parts stage.Closed (done ++ opcode_of e
 
 abbrev state : Read → Entries
 state r = state_of (map opcode_of r.entries) r.front
-
-abbrev IsBegun : (ℕ → Bool) → (ℕ → Bool) → List ℕ → ℕ → List ℕ → Type 0
-IsBegun is_first in_rest before first more = (are_spaces before ≡ true) × (is_first first ≡ true) × (list_all in_rest more ≡ true)
 
 record InList (name : Padded) (patterns : List Padded) : Type 0 where
   has_name : IsPadded is_name name
@@ -110,18 +104,6 @@ grown entries front next byte after all is_front is same = record {
   is = is;
   same = λ rest. ap (followed written_opcode entries) (same rest);
 }
-
-abbrev named : (before : List ℕ) (first : ℕ) (more behind : List ℕ) → Padded
-named before first more behind = record { before = before; inside = first ∷ more; behind = behind }
-
-abbrev more_blanks : (p : Padded) (byte : ℕ) → Padded
-more_blanks p byte = record { before = p.before; inside = p.inside; behind = p.behind ++ byte ∷ [] }
-
-padded_more : (p : Padded) (byte : ℕ) (rest : List ℕ) → written_padded p (byte ∷ rest) ≡ written_padded (more_blanks p byte) rest
-padded_more p byte rest = ap (λ (x : List ℕ). p.before ++ (p.inside ++ x)) (snoc-append p.behind byte rest)
-
-still_padded : (is : List ℕ → Bool) (p : Padded) (byte : ℕ) → IsPadded is p → is_space byte ≡ true → IsPadded is (more_blanks p byte)
-still_padded is p byte padded blank = record { blank_before = padded.blank_before; is_inside = padded.is_inside; blank_behind = passes-snoc is_space p.behind byte padded.blank_behind blank }
 
 name_leads : (entries : List OpcodeText) (front : Front) (st : OpcodeStage) (name : Padded) (byte : ℕ) (after : Entries) → Every IsOpcodeText entries → IsPadded is_name name
     → ((rest : List ℕ) → written_front front rest ≡ written_padded name rest) → behind_name (with_parts st (map opcode_of entries) (name_of name) [] []) byte ≡ Ok after → Leads (parts entries front) byte after
@@ -168,7 +150,7 @@ front_leads entries (Front.InName before first more) byte after all fine is = el
   | inl a ↦ grown entries (Front.InName before first more) (Front.InName before first (more ++ byte ∷ [])) byte after all (fine.0, fine.1, passes-snoc in_word more byte fine.2 a.0)
       (ap (λ (n : List ℕ). with_parts stage.Name (map opcode_of entries) (capital first ∷ n) [] []) (map-snoc capital more byte) ∙ same_ok _ _ a.1)
       (λ rest. ap (λ (x : List ℕ). before ++ (first ∷ x)) (snoc-append more byte rest))
-  | inr b ↦ name_leads entries (Front.InName before first more) stage.Name (named before first more []) byte after all
+  | inr b ↦ name_leads entries (Front.InName before first more) stage.Name (named before first more) byte after all
       (record { blank_before = fine.0; is_inside = and_from (is_letter first) (list_all in_word more) fine.1 fine.2; blank_behind = refl }) (λ rest. refl) b.1
 ]
 front_leads entries (Front.BehindName name) byte after all fine is = name_leads entries (Front.BehindName name) stage.Named name byte after all fine (λ rest. refl) is
@@ -185,7 +167,7 @@ front_leads entries (Front.InDigits name patterns before first more) byte after 
       (fine.0, (fine.1.0, fine.1.1, passes-snoc is_pattern_digit more byte fine.1.2 a.0))
       (ap (λ (ds : List Digit). with_parts stage.Digits (map opcode_of entries) (name_of name) (map pattern_of patterns) (digit_of first ∷ ds)) (map-snoc digit_of more byte) ∙ same_ok _ _ a.1)
       (λ rest. ap (λ (x : List ℕ). in_list name patterns (before ++ (first ∷ x))) (snoc-append more byte rest))
-  | inr b ↦ pattern_leads entries (Front.InDigits name patterns before first more) stage.Digits name patterns (named before first more []) byte after all fine.0
+  | inr b ↦ pattern_leads entries (Front.InDigits name patterns before first more) stage.Digits name patterns (named before first more) byte after all fine.0
       (record { blank_before = fine.1.0; is_inside = and_from (is_pattern_digit first) (list_all is_pattern_digit more) fine.1.1 fine.1.2; blank_behind = refl }) (λ rest. refl) b.1
 ]
 front_leads entries (Front.BehindDigits name patterns last) byte after all fine is = pattern_leads entries (Front.BehindDigits name patterns last) stage.Joined name patterns last byte after all fine.0 fine.1 (λ rest. refl) is

@@ -1,23 +1,16 @@
 -- Each entry of INSTRUCTION_OPCODE has a pattern.
-use Rattle.std.proofs.Common.{◌≡◌, ℕ, ◌==◌, nat_lt, Bool, true, false, ◌⊎◌, inl, inr, if◌then◌else◌, List, [], ◌∷◌, ◌++◌, length, reverse, Result, Ok, Err, refl, subst, arith, length-append}
+use Rattle.std.proofs.Common.{◌≡◌, ℕ, ◌==◌, nat_lt, Bool, true, inl, inr, if◌then◌else◌, List, [], ◌∷◌, ◌++◌, length, reverse, Result, Ok, Err, refl, subst, arith, length-append}
 use Rattle.std.proofs.lemmas.Bool.{and_parts, and_from, lt-ltb}
 use Rattle.bsdl_lex.specs.declared.Token.{Token}
 use Rattle.bsdl_lex.specs.Tokens.{is_letter, in_word}
 use Rattle.part_model.specs.declared.Digit.{Digit}
 use Rattle.part_model.specs.declared.plan.Opcode.{Opcode}
 use Rattle.part_model.specs.Plans.{all_have_patterns}
-use Rattle.bsdl_read.specs.Contents.{and_then, is_space, is_pattern_digit, inside, through, through_all}
+use Rattle.bsdl_read.specs.Contents.{is_space, is_pattern_digit, inside, through, through_all}
 use Rattle.bsdl_read.specs.Opcodes.{Entries, at_stage, with_letter, with_digit, with_pattern, with_entry, behind_pattern, behind_name, byte_at, next_byte, is_closed, closed, no_entries, opcodes}
 use Rattle.bsdl_read.specs.declared.opcodes.OpcodeStage.{OpcodeStage}
 use Rattle.bsdl_read.specs.declared.opcodes.OpcodeStage.TheVariants as stage
-
-chosen : {A : Type 0} (test : Bool) (x y z : A) → (if test then x else y) ≡ z → ((test ≡ true) × (x ≡ z)) ⊎ ((test ≡ false) × (y ≡ z))
-chosen true x y z is = inl (refl, is)
-chosen false x y z is = inr (refl, is)
-
-bound : {A B : Type 0} (first : Result A ℕ) (more : A → Result B ℕ) (out : B) → and_then first more ≡ Ok out → (x : A) × (first ≡ Ok x) × (more x ≡ Ok out)
-bound (Ok x) more out is = (x, refl, is)
-bound (Err cause) more out is = absurd (cc is)
+use Rattle.bsdl_read.proofs.Spans.{chosen, bound}
 
 -- what each byte keeps, the whole content keeps
 through_keeps : {S : Type 0} (step : S → ℕ → Result S ℕ) (P : S → Type 0) → ((state : S) (byte : ℕ) (after : S) → step state byte ≡ Ok after → P state → P after)

@@ -1,15 +1,12 @@
 -- What contents of every form share: blanks, lists that grow at their end, and the run over their bytes.
-use Rattle.std.proofs.Common.{◌≡◌, ℕ, ◌==◌, Bool, true, false, ◌⊎◌, inl, inr, if◌then◌else◌, List, [], ◌∷◌, ◌++◌, map, Result, Ok, Err, refl, sym, ap, ◌∙◌, append_assoc}
+use Rattle.std.proofs.Common.{◌≡◌, ℕ, ◌==◌, Bool, true, false, ◌⊎◌, inl, inr, List, [], ◌∷◌, ◌++◌, map, Result, Ok, Err, refl, sym, ap, ◌∙◌, append_assoc}
 use Rattle.std.specs.List.{list_all}
 use Rattle.std.proofs.lemmas.Bool.{and_parts, and_from, or_cases, eqb-true}
 use Rattle.bsdl_lex.specs.declared.Token.{Token}
 use Rattle.bsdl_lex.specs.Tokens.{is_letter, is_digit, in_word}
 use Rattle.bsdl_read.specs.Contents.{and_then, is_space, is_pattern_digit, inside, through, through_all}
-use Rattle.bsdl_read.specs.ContentGrammar.{content, Every, followed, are_spaces}
-
-pub chosen : {A : Type 0} (test : Bool) (x y z : A) → (if test then x else y) ≡ z → ((test ≡ true) × (x ≡ z)) ⊎ ((test ≡ false) × (y ≡ z))
-chosen true x y z is = inl (refl, is)
-chosen false x y z is = inr (refl, is)
+use Rattle.bsdl_read.specs.ContentGrammar.{content, Every, followed, are_spaces, Padded, written_padded, IsPadded}
+pub use Rattle.bsdl_read.proofs.Forms.{chosen}
 
 pub bound : {A B : Type 0} (first : Result A ℕ) (more : A → Result B ℕ) (out : B) → and_then first more ≡ Ok out → (x : A) × (first ≡ Ok x) × (more x ≡ Ok out)
 bound (Ok x) more out is = (x, refl, is)
@@ -107,6 +104,26 @@ behind_blanks {S = S} step s behind next byte first stays from_first from_behind
     ∙ over_blanks step behind stays blanks (byte ∷ rest) both.1
     ∙ ap (λ (one : Result S ℕ). and_then one (λ after. through step after rest)) from_behind
 
+-- ---- something between blanks grows at its end
+
+abbrev pub begun : List ℕ → ℕ → List ℕ → List ℕ → List ℕ
+begun before first more rest = before ++ ((first ∷ more) ++ rest)
+
+abbrev pub IsBegun : (ℕ → Bool) → (ℕ → Bool) → List ℕ → ℕ → List ℕ → Type 0
+IsBegun is_first in_rest before first more = (are_spaces before ≡ true) × (is_first first ≡ true) × (list_all in_rest more ≡ true)
+
+abbrev pub named : List ℕ → ℕ → List ℕ → Padded
+named before first more = record { before = before; inside = first ∷ more; behind = [] }
+
+abbrev pub more_blanks : (p : Padded) (byte : ℕ) → Padded
+more_blanks p byte = record { before = p.before; inside = p.inside; behind = p.behind ++ byte ∷ [] }
+
+pub padded_more : (p : Padded) (byte : ℕ) (rest : List ℕ) → written_padded p (byte ∷ rest) ≡ written_padded (more_blanks p byte) rest
+padded_more p byte rest = ap (λ (x : List ℕ). p.before ++ (p.inside ++ x)) (snoc-append p.behind byte rest)
+
+pub still_padded : (is : List ℕ → Bool) (p : Padded) (byte : ℕ) → IsPadded is p → is_space byte ≡ true → IsPadded is (more_blanks p byte)
+still_padded is p byte padded blank = record { blank_before = padded.blank_before; is_inside = padded.is_inside; blank_behind = passes-snoc is_space p.behind byte padded.blank_behind blank }
+
 -- ---- a run, part by part
 
 -- what stands for each state, kept by each byte, stands for what the whole content leads to
@@ -119,3 +136,19 @@ run_over {S = S} step state written fine each (byte ∷ bytes) f out is runs =
     let n = each f byte b.0 is b.1 in
     let more = run_over step state written fine each bytes n.0 out n.1 (ap (λ (s : S). through step s bytes) n.2 ∙ b.2) in
     (more.0, more.1, more.2, n.3 bytes ∙ more.3)
+
+-- and where the run stops, it stops behind such parts
+pub run_stops : {F S : Type 0} (step : S → ℕ → Result S ℕ) (state : F → S) (written : F → List ℕ → List ℕ) (fine : F → Type 0)
+    → ((f : F) (byte : ℕ) (after : S) → fine f → step (state f) byte ≡ Ok after → (now : F) × fine now × (state now ≡ after) × ((rest : List ℕ) → written f (byte ∷ rest) ≡ written now rest))
+    → (bytes : List ℕ) (f : F) (cause : ℕ) → fine f → through step (state f) bytes ≡ Err cause → (last : F) × (byte : ℕ) × (rest : List ℕ) × fine last × (step (state last) byte ≡ Err cause) × (written f bytes ≡ written last (byte ∷ rest))
+run_stops step state written fine each [] f cause is runs = absurd (cc runs)
+run_stops {F = F} {S = S} step state written fine each (byte ∷ bytes) f cause is runs = by (step (state f) byte) refl runs (λ g good more. run_stops step state written fine each bytes g cause good more)
+  where
+    by : (r : Result S ℕ) → step (state f) byte ≡ r → and_then r (λ after. through step after bytes) ≡ Err cause
+        → ((g : F) → fine g → through step (state g) bytes ≡ Err cause → (last : F) × (next : ℕ) × (rest : List ℕ) × fine last × (step (state last) next ≡ Err cause) × (written g bytes ≡ written last (next ∷ rest)))
+        → (last : F) × (next : ℕ) × (rest : List ℕ) × fine last × (step (state last) next ≡ Err cause) × (written f (byte ∷ bytes) ≡ written last (next ∷ rest))
+    by (Ok after) h go_on more =
+        let n = each f byte after is h in
+        let m = more n.0 n.1 (ap (λ (s : S). through step s bytes) n.2 ∙ go_on) in
+        (m.0, m.1, m.2, m.3, m.4, n.3 bytes ∙ m.5)
+    by (Err other) h go_on more = (f, byte, bytes, is, h ∙ go_on, refl)

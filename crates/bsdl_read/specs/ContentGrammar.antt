@@ -187,3 +187,28 @@ pub record SaysAccesses (bytes : List ℕ) (found : List Access) : Type 0 where
   pub are : bytes ≡ written_joined written_access entries []
   pub forms : EachJoined IsAccessText entries
   pub says : found ≡ all_joined access_of entries
+
+-- what is left out of the subset: the word CAPTURES behind a register or behind an instruction, and the instruction RUNBIST
+pub data LeftOut : Type 0 where
+  BehindRegister : (register : Padded) (word : List ℕ) → LeftOut
+  BehindInstruction : (register : Padded) (length : Option LengthText) (names : List Padded) (last : Padded) (word : List ℕ) → LeftOut
+  Instruction : (register : Padded) (length : Option LengthText) (names : List Padded) (before name : List ℕ) → LeftOut
+
+abbrev pub written_left_out : LeftOut → List ℕ → List ℕ
+written_left_out (LeftOut.BehindRegister register word) rest = written_padded register (word ++ rest)
+written_left_out (LeftOut.BehindInstruction register length names last word) rest = written_padded register (written_length length (40 ∷ followed written_padded names (written_padded last (word ++ rest))))
+written_left_out (LeftOut.Instruction register length names before name) rest = written_padded register (written_length length (40 ∷ followed written_padded names (before ++ (name ++ rest))))
+
+abbrev pub IsLeftOut : LeftOut → Type 0
+IsLeftOut (LeftOut.BehindRegister register word) = same_word (map capital word) (codes "CAPTURES") ≡ true
+IsLeftOut (LeftOut.BehindInstruction register length names last word) = same_word (map capital word) (codes "CAPTURES") ≡ true
+IsLeftOut (LeftOut.Instruction register length names before name) = same_word (map capital name) (codes "RUNBIST") ≡ true
+
+-- behind entries, each with a `,` behind it, the content has such a word
+pub record NamesLeftOut (bytes : List ℕ) : Type 0 where
+  pub entries : List AccessText
+  pub part : LeftOut
+  pub rest : List ℕ
+  pub are : bytes ≡ followed written_access entries (written_left_out part rest)
+  pub each : Every IsAccessText entries
+  pub is_left_out : IsLeftOut part

@@ -13,7 +13,7 @@ use Rattle.bsdl_read.specs.Contents.{number_from}
 use Rattle.bsdl_read.specs.Opcodes.{opcodes}
 use Rattle.bsdl_read.specs.Patterns.{pattern}
 use Rattle.bsdl_read.specs.Accesses.{accesses}
-use Rattle.bsdl_read.specs.ContentGrammar.{content, SaysOpcodes, SaysPattern, SaysAccesses}
+use Rattle.bsdl_read.specs.ContentGrammar.{content, SaysOpcodes, SaysPattern, SaysAccesses, NamesLeftOut}
 use Rattle.bsdl_read.specs.Reading.{IsEntity, NoEntity}
 
 -- tokens have a structure exactly where they are a file by its parts, with the same name, VALUEs and `end`
@@ -73,6 +73,10 @@ PatternsAreRefused = (many : Bool) (text : List ℕ) (tokens : List Token) (caus
 -- and the entries of REGISTER_ACCESS
 abbrev pub AccessesHaveParts : Type 0
 AccessesHaveParts = (text : List ℕ) (tokens : List Token) (found : List Access) → (accesses text tokens ≡ Ok found) ↔ SaysAccesses (content text tokens) found
+
+-- which are refused for cause 8, or for 9 where the content has a word that is left out of the subset
+abbrev pub AccessesAreRefused : Type 0
+AccessesAreRefused = (text : List ℕ) (tokens : List Token) (cause : ℕ) → accesses text tokens ≡ Err cause → (cause ≡ 8) ⊎ ((cause ≡ 9) × NamesLeftOut (content text tokens))
 
 -- the last digit of a number is the lowest
 abbrev pub LastDigitIsLowest : Type 0

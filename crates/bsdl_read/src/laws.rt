@@ -20,8 +20,8 @@ pub fn entity_or_refusal()
 {}
 
 /// The contents by their parts: INSTRUCTION_OPCODE, one pattern or several, and REGISTER_ACCESS are read exactly where what stands between
-/// the quotes, put together, is written as such entries, and say what these say. The first two are refused for cause 8 alone. The last
-/// digit of a number is the lowest.
+/// the quotes, put together, is written as such entries, and say what these say. The first two are refused for cause 8 alone, and the
+/// third for cause 9 only where a word of it is left out of the subset. The last digit of a number is the lowest.
 pub fn contents_have_parts()
     ensures one { l.OneContent }
     ensures opcodes { l.OpcodesHaveParts }
@@ -29,5 +29,6 @@ pub fn contents_have_parts()
     ensures patterns { l.PatternsHaveParts }
     ensures no_pattern { l.PatternsAreRefused }
     ensures accesses { l.AccessesHaveParts }
+    ensures no_accesses { l.AccessesAreRefused }
     ensures numbers { l.LastDigitIsLowest }
 {}

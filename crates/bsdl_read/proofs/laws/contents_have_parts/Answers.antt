@@ -1,4 +1,5 @@
 use Rattle.bsdl_read.proofs.Contenting.{one_content, opcodes_law, opcodes_refused, patterns_law, patterns_refused, accesses_law, last_digit}
+use Rattle.bsdl_read.proofs.AccessParts.{accesses_refused}
 use Rattle.bsdl_read.proofs.laws.contents_have_parts.Goals as goal
 
 pub returns-clause-one : goal.returns-clause-one
@@ -21,3 +22,6 @@ returns-clause-accesses c = accesses_law
 
 pub returns-clause-numbers : goal.returns-clause-numbers
 returns-clause-numbers c = last_digit
+
+pub returns-clause-no_accesses : goal.returns-clause-no_accesses
+returns-clause-no_accesses c = accesses_refused
