@@ -14,34 +14,34 @@ use Rattle.scan_share.specs.PrivateChains.{entries_at}
 use Rattle.scan_share.specs.Scans.{widths_during, code_during, codes_from, scan_length}
 use Rattle.scan_share.specs.Lengths.{HasCodes, own_length}
 
-abbrev sum : List ℕ → ℕ
+abbrev pub sum : List ℕ → ℕ
 sum ws = sum_by (λ w. w) ws
 
-sum_cons : (w : ℕ) (ws : List ℕ) → sum (w ∷ ws) ≡ w + sum ws
+pub sum_cons : (w : ℕ) (ws : List ℕ) → sum (w ∷ ws) ≡ w + sum ws
 sum_cons w ws = sum_by-cons (λ n. n) w ws
 
 -- the group's entries, where the list begins at a place
-abbrev entries_from : {X : Type 0} → ℕ → List X → List ℕ → List X
+abbrev pub entries_from : {X : Type 0} → ℕ → List X → List ℕ → List X
 entries_from place all group = filter_map (λ p. slice_get all (p - place)) group
 
 -- all places are at least this, and below that
-abbrev Above : ℕ → List ℕ → Type 0
+abbrev pub Above : ℕ → List ℕ → Type 0
 Above low [] = Unit {0}
 Above low (place ∷ group) = (low ≤ place) × Above low group
 
-abbrev Below : ℕ → List ℕ → Type 0
+abbrev pub Below : ℕ → List ℕ → Type 0
 Below high [] = Unit {0}
 Below high (place ∷ group) = (place < high) × Below high group
 
-lower : (low more : ℕ) (group : List ℕ) → low ≤ more → Above more group → Above low group
+pub lower : (low more : ℕ) (group : List ℕ) → low ≤ more → Above more group → Above low group
 lower low more [] le above = _
 lower low more (place ∷ group) le above = (let a : more ≤ place = above.0 in omega (arith, le, a), lower low more group le above.1)
 
-rises_above : (low : ℕ) (group : List ℕ) → RisesFrom low group → Above low group
+pub rises_above : (low : ℕ) (group : List ℕ) → RisesFrom low group → Above low group
 rises_above low [] rises = _
 rises_above low (place ∷ group) rises = let a : low ≤ place = rises.0 in (a, lower low (suc place) group (omega (arith, a)) (rises_above (suc place) group rises.1))
 
-below_all : (high : ℕ) (group : List ℕ) → ((place : ℕ) → is_one_of place group ≡ true → place < high) → Below high group
+pub below_all : (high : ℕ) (group : List ℕ) → ((place : ℕ) → is_one_of place group ≡ true → place < high) → Below high group
 below_all high [] within = _
 below_all high (first ∷ group) within =
     (within first (rw (eq-eqb first first refl) refl), below_all high group (λ place h. within place (second (nat_eq first place) (is_one_of place group) h)))
@@ -50,11 +50,11 @@ below_all high (first ∷ group) within =
     second true b h = refl
     second false b h = h
 
-raised_below : (place count : ℕ) (group : List ℕ) → Below (place + suc count) group → Below (suc place + count) group
+pub raised_below : (place count : ℕ) (group : List ℕ) → Below (place + suc count) group → Below (suc place + count) group
 raised_below place count group below = subst (λ high. Below high group) (omega arith) below
 
 -- a place that is passed makes no difference
-shifted_entries : (place : ℕ) (part : DeviceType) (parts : List DeviceType) (group : List ℕ) → Above (suc place) group
+pub shifted_entries : {X : Type 0} (place : ℕ) (part : X) (parts : List X) (group : List ℕ) → Above (suc place) group
     → entries_from place (part ∷ parts) group ≡ entries_from (suc place) parts group
 shifted_entries place part parts [] above = refl
 shifted_entries place part parts (first ∷ group) above =
@@ -62,14 +62,14 @@ shifted_entries place part parts (first ∷ group) above =
     let e : first - place ≡ suc (first - suc place) = omega (arith, a) in
     rw e (ap (cons_option (slice_get parts (first - suc place))) (shifted_entries place part parts group above.1))
 
-passed_codes : (first : ℕ) (code : List Bool) (group : List ℕ) (codes : List (List Bool)) (from : ℕ) (parts : List DeviceType) → first < from
+pub passed_codes : (first : ℕ) (code : List Bool) (group : List ℕ) (codes : List (List Bool)) (from : ℕ) (parts : List DeviceType) → first < from
     → codes_from (first ∷ group) (code ∷ codes) from parts ≡ codes_from group codes from parts
 passed_codes first code group codes from [] lt = refl
 passed_codes first code group codes from (part ∷ parts) lt =
     let n : nat_eq first from ≡ false = ne_eqb first from (λ e. omega (arith, e, lt)) in
     rw n (ap (λ rest. code_during group codes from (replicate part.ir_length true) ∷ rest) (passed_codes first code group codes (suc from) parts (omega (arith, lt))))
 
-others_are_ones : (group : List ℕ) (codes : List (List Bool)) (place : ℕ) (ones : List Bool) → Above (suc place) group → code_during group codes place ones ≡ ones
+pub others_are_ones : (group : List ℕ) (codes : List (List Bool)) (place : ℕ) (ones : List Bool) → Above (suc place) group → code_during group codes place ones ≡ ones
 others_are_ones [] codes place ones above = refl
 others_are_ones (first ∷ group) [] place ones above = refl
 others_are_ones (first ∷ group) (code ∷ codes) place ones above =
@@ -77,7 +77,7 @@ others_are_ones (first ∷ group) (code ∷ codes) place ones above =
     let n : nat_eq first place ≡ false = ne_eqb first place (λ e. omega (arith, e, a)) in
     rw n (others_are_ones group codes place ones above.1)
 
-one_bit : (part : DeviceType) (n : ℕ) → width part (replicate n true) ≡ 1
+pub one_bit : (part : DeviceType) (n : ℕ) → width part (replicate n true) ≡ 1
 one_bit part n = ap (length_of part) (selected-ones part n)
 
 abbrev all_bits : ℕ → List DeviceType → List ℕ → List (List Bool) → ℕ
@@ -138,7 +138,7 @@ own_and_others (part ∷ parts) place (first ∷ group) (code ∷ codes) rises b
           (own_and_others parts (suc place) (first ∷ group) (code ∷ codes) later (raised_below place (length parts) (first ∷ group) below) size)
     ]
 
-from_front : (all : List DeviceType) (group : List ℕ) → entries_from 0 all group ≡ entries_at all group
+pub from_front : {X : Type 0} (all : List X) (group : List ℕ) → entries_from 0 all group ≡ entries_at all group
 from_front all [] = refl
 from_front all (first ∷ group) =
     let e : first - 0 ≡ first = omega arith in

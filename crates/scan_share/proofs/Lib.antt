@@ -18,3 +18,16 @@ pub mod Reloads
 pub mod Wide
 pub mod MadeOf
 pub mod Whole
+pub mod Places
+pub mod Taking
+pub mod Weaving
+pub mod Woven
+pub mod CodeWords
+pub mod Rested
+pub mod Walked
+pub mod Loaded
+pub mod Scanned
+pub mod Ready
+pub mod Totals
+pub mod OwnWidths
+pub mod Answered

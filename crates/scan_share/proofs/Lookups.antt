@@ -13,6 +13,7 @@ use Rattle.chain_model.specs.Cycles.{capture_device, captured_from}
 use Rattle.part_model.specs.Parts.{DeviceType}
 use Rattle.scan_share.specs.PrivateChains.{entries_at}
 use Rattle.scan_share.specs.Scans.{with_codes, with_contents, code_during, codes_from}
+use Rattle.scan_share.specs.Codes.{put_at}
 use Rattle.scan_share.proofs.Facts.{Apart}
 
 -- equal numbers, and the next ones
@@ -107,25 +108,34 @@ abbrev pub picked : {X : Type 0} → Option ℕ → List X → Option X → Opti
 picked None own other = other
 picked (Some g) own other = slice_get own g
 
-pub content_at : (group : List ℕ) (own all : List Content) → Apart group → length own ≡ length group → ((g place : ℕ) → slice_get group g ≡ Some place → place < length all)
-    → (i : ℕ) → slice_get (with_contents group own all) i ≡ picked (first_place (λ p. p == i) group) own (slice_get all i)
-content_at [] own all apart size within i = refl
-content_at (place ∷ group) [] all apart size within i = absurd (omega (arith, size))
-content_at (place ∷ group) (content ∷ own) all apart size within i =
-    by (content_at group own (slice_set all place content) (apart.1) (omega (arith, size)) (λ g p e. omega (arith, within (suc g) p e, length-slice_set all place content)) i) (place == i) refl
+pub put_at_at : {X : Type 0} (group : List ℕ) (own all : List X) → Apart group → length own ≡ length group → ((g place : ℕ) → slice_get group g ≡ Some place → place < length all)
+    → (i : ℕ) → slice_get (put_at group own all) i ≡ picked (first_place (λ p. p == i) group) own (slice_get all i)
+put_at_at [] own all apart size within i = refl
+put_at_at (place ∷ group) [] all apart size within i = absurd (omega (arith, size))
+put_at_at {X} (place ∷ group) (x ∷ own) all apart size within i =
+    by (put_at_at group own (slice_set all place x) (apart.1) (omega (arith, size)) (λ g p e. omega (arith, within (suc g) p e, length-slice_set all place x)) i) (place == i) refl
   where
-    stays : (o : Option ℕ) → (place == i) ≡ false → picked o own (slice_get (slice_set all place content) i) ≡ picked (option_map suc o) (content ∷ own) (slice_get all i)
-    stays None h = set_there all place i content h
+    stays : (o : Option ℕ) → (place == i) ≡ false → picked o own (slice_get (slice_set all place x) i) ≡ picked (option_map suc o) (x ∷ own) (slice_get all i)
+    stays None h = set_there all place i x h
     stays (Some g) h = refl
 
-    by : slice_get (with_contents group own (slice_set all place content)) i ≡ picked (first_place (λ p. p == i) group) own (slice_get (slice_set all place content) i)
-        → (t : Bool) → (place == i) ≡ t → slice_get (with_contents group own (slice_set all place content)) i ≡ picked (first_place (λ p. p == i) (place ∷ group)) (content ∷ own) (slice_get all i)
+    by : slice_get (put_at group own (slice_set all place x)) i ≡ picked (first_place (λ p. p == i) group) own (slice_get (slice_set all place x) i)
+        → (t : Bool) → (place == i) ≡ t → slice_get (put_at group own (slice_set all place x)) i ≡ picked (first_place (λ p. p == i) (place ∷ group)) (x ∷ own) (slice_get all i)
     by rest true h =
         let same : place ≡ i = eqb-true place i h in
         let none : first_place (λ p. p == i) group ≡ None = ap (λ q. first_place (λ p. p == q) group) (sym same) ∙ apart.0 in
-        let here : slice_get (slice_set all place content) i ≡ Some content = ap (slice_get (slice_set all place content)) (sym same) ∙ set_here all place content (within 0 place refl) in
-        rest ∙ ap (λ o. picked o own (slice_get (slice_set all place content) i)) none ∙ here ∙ sym (rw h refl)
+        let here : slice_get (slice_set all place x) i ≡ Some x = ap (slice_get (slice_set all place x)) (sym same) ∙ set_here all place x (within 0 place refl) in
+        rest ∙ ap (λ o. picked o own (slice_get (slice_set all place x) i)) none ∙ here ∙ sym (rw h refl)
     by rest false h = rest ∙ stays (first_place (λ p. p == i) group) h ∙ sym (rw h refl)
+
+contents_put : (group : List ℕ) (own all : List Content) → with_contents group own all ≡ put_at group own all
+contents_put [] own all = refl
+contents_put (place ∷ group) [] all = refl
+contents_put (place ∷ group) (content ∷ own) all = contents_put group own (slice_set all place content)
+
+pub content_at : (group : List ℕ) (own all : List Content) → Apart group → length own ≡ length group → ((g place : ℕ) → slice_get group g ≡ Some place → place < length all)
+    → (i : ℕ) → slice_get (with_contents group own all) i ≡ picked (first_place (λ p. p == i) group) own (slice_get all i)
+content_at group own all apart size within i = ap (λ l. slice_get l i) (contents_put group own all) ∙ put_at_at group own all apart size within i
 
 -- the code of a place during a scan
 abbrev pub code_or : Option ℕ → List (List Bool) → List Bool → List Bool

@@ -84,14 +84,14 @@ staged_at (first ∷ devices) (s ∷ stages) zero device stage is at = λ k. Som
 staged_at (first ∷ devices) (s ∷ stages) (suc i) device stage is at = staged_at devices stages i device stage is at
 
 -- widths by place
-widths_zip_at : (parts : List DeviceType) (codes : List (List Bool)) (i : ℕ) (part : DeviceType) (code : List Bool) → slice_get parts i ≡ Some part → slice_get codes i ≡ Some code
+pub widths_zip_at : (parts : List DeviceType) (codes : List (List Bool)) (i : ℕ) (part : DeviceType) (code : List Bool) → slice_get parts i ≡ Some part → slice_get codes i ≡ Some code
     → slice_get (widths_during parts codes) i ≡ Some (width part code)
 widths_zip_at [] codes i part code is at = some_none part (sym is)
 widths_zip_at (p ∷ parts) [] i part code is at = some_none code (sym at)
 widths_zip_at (p ∷ parts) (c ∷ codes) zero part code is at = λ k. Some (width (same_Some p part is k) (same_Some c code at k))
 widths_zip_at (p ∷ parts) (c ∷ codes) (suc i) part code is at = widths_zip_at parts codes i part code is at
 
-length-widths_during : (parts : List DeviceType) (codes : List (List Bool)) → length codes ≡ length parts → length (widths_during parts codes) ≡ length parts
+pub length-widths_during : (parts : List DeviceType) (codes : List (List Bool)) → length codes ≡ length parts → length (widths_during parts codes) ≡ length parts
 length-widths_during [] codes size = refl
 length-widths_during (p ∷ parts) [] size = absurd (omega (arith, size))
 length-widths_during (p ∷ parts) (c ∷ codes) size = ap suc (length-widths_during parts codes (omega (arith, size)))

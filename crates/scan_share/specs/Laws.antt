@@ -4,7 +4,6 @@ use Rattle.std.specs.List.{sum_by}
 use Rattle.tap_states.specs.declared.Tap.TheVariants.{TestLogicReset}
 use Rattle.scan_bits.specs.Registers.{joined}
 use Rattle.part_model.specs.declared.Net.{Net}
-use Rattle.part_model.specs.Parts.{DeviceType}
 use Rattle.part_model.specs.Plans.{IsPart}
 use Rattle.chain_model.specs.Chains.{ChainState, Placed, powered, reset}
 use Rattle.chain_model.specs.Cycles.{Clock, after_cycles, after_calls, answers}

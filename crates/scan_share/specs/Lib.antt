@@ -5,3 +5,8 @@ pub mod Lengths
 pub mod Walks
 pub mod Written
 pub mod Laws
+pub mod Rows
+pub mod Parts
+pub mod Codes
+pub mod Views
+pub mod Costs

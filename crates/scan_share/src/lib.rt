@@ -4,8 +4,25 @@
 ghost use Rattle.std.specs.Prelude.{◌≡◌, [], List};
 ghost use Rattle.chain_model.specs.Chains.{Placed, powered};
 ghost use Rattle.scan_share.specs.PrivateChains.{private_chain};
+ghost use Rattle.grant_table.specs.Layouts.{group_of};
+ghost use Rattle.scan_share.specs.Scans.{update_cycles};
+ghost use Rattle.scan_share.specs.Costs.{two_grants, two_started, two_loaded, user_code, user_cycles};
 ghost use Rattle.scan_share.specs.Lengths.{ScansOwnAndOthers};
 ghost use Rattle.scan_share.specs.Laws.{LoadAndCapture, CaptureLoaded, WriteUpdates, StartRests, ResetAbandons, PoweredIsWhole};
+
+mod code_bits;
+mod codes;
+mod members;
+mod own_bits;
+mod pieces;
+mod runs;
+mod scan;
+mod scan_length;
+mod states;
+mod walks;
+mod write_bits;
+
+pub use states::{Broken, Open, Parked};
 
 /// The private chain of no devices is the empty chain.
 pub fn empty_group()
@@ -47,4 +64,15 @@ pub fn reset_abandons()
 /// A chain at power-up is made of all device types and nets of its layout.
 pub fn powered_is_whole()
     ensures { PoweredIsWhole }
+{}
+
+/// Two demo devices, each of a grant of its own, under the code of USER1: a start makes 6 cycles, the first capture 26, as an
+/// instruction scan has 8 bits and a scan of data registers 9, and each update 13. The same grant captures again in 13, and the other in
+/// 26. The cycles made are then 6, 32, 45, 58, 71 and 97.
+pub fn reloads_cost_cycles()
+    ensures start { two_started.made ≡ 6 }
+    ensures first { user_cycles 0 two_started ≡ 26 }
+    ensures update { update_cycles two_grants (group_of two_grants.grants 0) user_code ≡ 13 }
+    ensures again { user_cycles 0 two_loaded ≡ 13 }
+    ensures other { user_cycles 1 two_loaded ≡ 26 }
 {}

@@ -2,7 +2,7 @@
 use Rattle.std.proofs.Common.{◌≡◌, ◌≤◌, ◌<◌, ◌+◌, ◌-◌, ◌^◌, ℕ, Bool, false, List, [], ◌++◌, length, take, drop, replicate, refl, ap, sym, ◌∙◌, arith, subst, append_assoc, length-append, length-drop}
 use Rattle.std.specs.declared.option.Option.{Option}
 use Rattle.std.specs.declared.option.Option.TheVariants.{None, Some}
-use Rattle.std.proofs.lemmas.List.{length-replicate, drop-replicate, append-nil}
+use Rattle.std.proofs.lemmas.List.{length-replicate, drop-replicate}
 use Rattle.base_types.specs.Tellings.{Both, TakesFirst}
 use Rattle.base_types.proofs.TellingLaws.{both_joined, takings_joined}
 use Rattle.scan_bits.specs.Words.{bits_of, number_of}
@@ -94,28 +94,28 @@ takes_on done n all word a b c sum first second = record {
   is = takings_joined a b c first.taken (bits_of n word) first.is second;
 }
 
--- a reader's bits, while some are left to read
-pub record ReadsOn (before now : Option ChainState) (ahead ahead_now : Option (List Bool)) (got got_now : List Bool) (count left : ℕ) : Type 0 where
+-- what a sink holds, while some bits are left to read
+pub record ReadsOn (before now : Option ChainState) (ahead ahead_now : Option (List Bool)) (holds holds_now : List Bool → List Bool) (count left : ℕ) : Type 0 where
   pub out : List Bool
   pub counted : length out + left ≡ count
-  pub is_got : got_now ≡ got ++ out
+  pub held : (more : List Bool) → holds_now more ≡ holds (out ++ more)
   pub leads : Both before now (LeadsOn (replicate count false) (replicate left false))
   pub answers : Both before now (AnswersOn (replicate count false) (replicate left false) out)
   pub taken : TakesFirst ahead ahead_now out
 
-pub reading_begun : (chain : Option ChainState) (ahead : Option (List Bool)) (got : List Bool) (count : ℕ) → ReadsOn chain chain ahead ahead got got count count
-reading_begun chain ahead got count = record {
+pub reading_begun : (chain : Option ChainState) (ahead : Option (List Bool)) (holds : List Bool → List Bool) (count : ℕ) → ReadsOn chain chain ahead ahead holds holds count count
+reading_begun chain ahead holds count = record {
   out = [];
   counted = omega arith;
-  is_got = sym (append-nil got);
+  held = λ more. refl;
   leads = leads_begun (replicate count false) chain;
   answers = answers_begun (replicate count false) chain;
   taken = taking_begun ahead;
 }
 
-pub reading_on : (count left n rest answer : ℕ) (a b c : Option ChainState) (x y z : Option (List Bool)) (got now then : List Bool) → n ≡ 64 → n < left → rest ≡ left - n
-    → then ≡ now ++ bits_of n answer → TakesFirst y z (bits_of n answer) → Clocked b c (clocks_of n 0 0) answer → ReadsOn a b x y got now count left → ReadsOn a c x z got then count rest
-reading_on count left n rest answer a b c x y z got now then most lt rest_is put take call was =
+pub reading_on : (count left n rest answer : ℕ) (a b c : Option ChainState) (x y z : Option (List Bool)) (holds now then : List Bool → List Bool) → n ≡ 64 → n < left → rest ≡ left - n
+    → ((more : List Bool) → then more ≡ now (bits_of n answer ++ more)) → TakesFirst y z (bits_of n answer) → Clocked b c (clocks_of n 0 0) answer → ReadsOn a b x y holds now count left → ReadsOn a c x z holds then count rest
+reading_on count left n rest answer a b c x y z holds now then most lt rest_is put take call was =
     let all = replicate count false in
     let size : length (replicate left false) ≡ left = length-replicate left false in
     let dropped : drop n (replicate left false) ≡ replicate rest false = drop-replicate n left false ∙ ap (λ k. replicate k false) (sym rest_is) in
@@ -126,21 +126,21 @@ reading_on count left n rest answer a b c x y z got now then most lt rest_is put
     record {
       out = was.out ++ bits_of n answer;
       counted = omega (arith, length-append was.out (bits_of n answer), length-bits_of n answer, was.counted, rest_is, lt);
-      is_got = put ∙ ap (λ q. q ++ bits_of n answer) was.is_got ∙ append_assoc got was.out (bits_of n answer);
+      held = λ more. put more ∙ was.held (bits_of n answer ++ more) ∙ ap holds (sym (append_assoc was.out (bits_of n answer) more));
       leads = subst (λ q. Both a c (LeadsOn all q)) dropped on;
       answers = subst (λ q. Both a c (AnswersOn all q (was.out ++ bits_of n answer))) dropped said;
       taken = takings_joined x y z was.out (bits_of n answer) was.taken take;
     }
 
-pub read_out : (count left tms answer : ℕ) (a b c : Option ChainState) (x y z : Option (List Bool)) (got now then : List Bool) → 1 ≤ left → left ≤ 64 → tms ≡ 2 ^ (left - 1)
-    → then ≡ now ++ bits_of left answer → TakesFirst y z (bits_of left answer) → Clocked b c (clocks_of left tms 0) answer → ReadsOn a b x y got now count left → ReadsOut a c x z got then count
-read_out count left tms answer a b c x y z got now then some few power put take call was =
+pub read_out : (count left tms answer : ℕ) (a b c : Option ChainState) (x y z : Option (List Bool)) (holds now then : List Bool → List Bool) → 1 ≤ left → left ≤ 64 → tms ≡ 2 ^ (left - 1)
+    → ((more : List Bool) → then more ≡ now (bits_of left answer ++ more)) → TakesFirst y z (bits_of left answer) → Clocked b c (clocks_of left tms 0) answer → ReadsOn a b x y holds now count left → ReadsOut a c x z holds then count
+read_out count left tms answer a b c x y z holds now then some few power put take call was =
     let all = replicate count false in
     let size : length (replicate left false) ≡ left = length-replicate left false in
     record {
       out = was.out ++ bits_of left answer;
       counted = omega (arith, length-append was.out (bits_of left answer), length-bits_of left answer, was.counted);
-      is_got = put ∙ ap (λ q. q ++ bits_of left answer) was.is_got ∙ append_assoc got was.out (bits_of left answer);
+      held = λ more. put more ∙ was.held (bits_of left answer ++ more) ∙ ap holds (sym (append_assoc was.out (bits_of left answer) more));
       shifted = led all (replicate left false) left tms 0 answer a b c some few size power (zeros left left (omega arith)) was.leads call;
       answered = answered all (replicate left false) was.out left tms 0 answer a b c some size power (zeros left left (omega arith)) was.answers call;
       taken = takings_joined x y z was.out (bits_of left answer) was.taken take;

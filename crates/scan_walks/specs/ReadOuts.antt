@@ -1,4 +1,4 @@
--- What shifts through a chain do to what a cable tells, and what a reader gets of them.
+-- What shifts through a chain do to what a cable tells, and what a sink gets of them.
 use Rattle.std.specs.Prelude.{ℕ, ◌≡◌, Bool, false, List, ◌++◌, length, replicate}
 use Rattle.std.specs.declared.option.Option.{Option}
 use Rattle.base_types.specs.Tellings.{Both, TakesFirst}
@@ -16,11 +16,12 @@ pub record TakesSome (before after : Option (List Bool)) (count : ℕ) : Type 0 
   pub counted : length taken ≡ count
   pub is : TakesFirst before after taken
 
--- a reader got as many bits as zeros were shifted in: those that the chain, where it is told, answered, and that were told ahead
-pub record ReadsOut (before after : Option ChainState) (ahead ahead_after : Option (List Bool)) (got got_after : List Bool) (count : ℕ) : Type 0 where
+-- a sink took as many bits as zeros were shifted in: those that the chain, where it is told, answered, and that were told ahead;
+-- what the sink holds is told by a function of the bits that come behind
+pub record ReadsOut (before after : Option ChainState) (ahead ahead_after : Option (List Bool)) (holds holds_after : List Bool → List Bool) (count : ℕ) : Type 0 where
   pub out : List Bool
   pub counted : length out ≡ count
-  pub is_got : got_after ≡ got ++ out
+  pub held : (more : List Bool) → holds_after more ≡ holds (out ++ more)
   pub shifted : ShiftsIn before after (replicate count false)
   pub answered : Both before after (λ old new. out ≡ answers (shift_in (replicate count false)) old)
   pub taken : TakesFirst ahead ahead_after out

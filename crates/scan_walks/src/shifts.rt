@@ -62,8 +62,9 @@ pub fn shift_out<C: Cable, S: BitSink>(
     requires some { 1 ≤ count }
     requires room { count ≤ S.room sink.old }
     requires devices { Told (C.chain cable.old) HasDevice }
-    ensures read { OnOk result (ReadsOut (C.chain cable.old) (C.chain cable.new) (C.ahead cable.old) (C.ahead cable.new) (S.got sink.old) (S.got sink.new) count) }
+    ensures read { OnOk result (ReadsOut (C.chain cable.old) (C.chain cable.new) (C.ahead cable.old) (C.ahead cable.new) (S.holds sink.old) (S.holds sink.new) count) }
     ensures room { OnOk result (S.room sink.new + count ≡ S.room sink.old) }
+    ensures sink { S.mark sink.new ≡ S.mark sink.old }
     ensures devices { OnOk result (Told (C.chain cable.new) HasDevice) }
     ensures mark { C.mark cable.new ≡ C.mark cable.old }
     ensures trst { C.trst cable.new ≡ C.trst cable.old }

@@ -6,6 +6,8 @@ mod entries;
 mod keys;
 mod lists;
 mod plan;
+#[cfg(test)]
+mod tests;
 
 pub use document::read_document;
 pub use plan::{DeviceEntry, DocumentRefusal, Place, SetupPlan};

@@ -5,6 +5,8 @@ mod boards;
 mod cells;
 mod read;
 mod setup;
+#[cfg(test)]
+mod tests;
 
 pub use read::read_setup;
 pub use setup::{Setup, SetupRefusal};

@@ -5,3 +5,4 @@ pub mod AssemblyLaws
 pub mod Printing
 pub mod HexLaws
 pub mod Lines
+pub mod CheckLaws

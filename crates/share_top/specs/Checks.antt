@@ -10,6 +10,10 @@ use Rattle.part_model.specs.Parts.{DeviceType, longest}
 use Rattle.grant_table.specs.declared.Protocol.{Protocol}
 use Rattle.grant_table.specs.declared.Protocol.TheVariants.{Xvc, Bitbang}
 use Rattle.grant_table.specs.Layouts.{LayoutShape, GrantShape, longest_of}
+use Rattle.setup_document.specs.declared.plan.Place.{Place}
+use Rattle.setup_document.specs.declared.plan.Place.TheVariants as place
+use Rattle.setup_read.specs.declared.setup.SetupRefusal.{SetupRefusal}
+use Rattle.setup_read.specs.declared.setup.SetupRefusal.TheVariants as refusal
 
 -- ---- numbers of base 16
 
@@ -104,3 +108,30 @@ net_lines number (net ∷ nets) = net_line number net ++ net_lines (number + 1) 
 
 abbrev pub check_text : List (List ℕ) → LayoutShape → List ℕ
 check_text names layout = device_lines 1 names layout.parts ++ (grant_lines layout 1 layout.grants ++ (net_lines 1 layout.nets ++ codes "ok\n"))
+
+-- ---- a setup that is refused
+
+-- where in the setup file
+abbrev pub place_text : Place → List ℕ
+place_text place.Top = codes "top"
+place_text (place.Device number) = codes "device " ++ decimal number
+place_text (place.Grant number) = codes "grant " ++ decimal number
+place_text (place.Net number) = codes "net " ++ decimal number
+
+-- the last line, by the refusal
+abbrev pub refusal_line : SetupRefusal → List ℕ
+refusal_line (refusal.Plain cause place) = codes "setup " ++ decimal cause ++ codes " " ++ place_text place ++ codes "\n"
+refusal_line (refusal.Layout fault) = codes "layout " ++ decimal fault.cause ++ codes " " ++ decimal fault.grant ++ codes " " ++ decimal fault.value ++ codes "\n"
+refusal_line (refusal.Absent device) = codes "absent device " ++ decimal device ++ codes "\n"
+refusal_line (refusal.Bsdl device at cause) = codes "bsdl " ++ decimal device ++ codes " " ++ decimal cause ++ codes " " ++ decimal at ++ codes "\n"
+refusal_line (refusal.Pins device) = codes "pins " ++ decimal device ++ codes "\n"
+refusal_line (refusal.Cell net) = codes "cell " ++ decimal net ++ codes "\n"
+refusal_line refusal.Fault = codes "read fault\n"
+refusal_line refusal.Memory = codes "memory\n"
+
+-- the status, by the refusal
+abbrev pub refusal_status : SetupRefusal → ℕ
+refusal_status (refusal.Absent device) = 12
+refusal_status refusal.Fault = 4
+refusal_status refusal.Memory = 9
+refusal_status _ = 3

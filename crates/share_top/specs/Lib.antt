@@ -5,3 +5,4 @@ pub mod Sessions
 pub mod Outcomes
 pub mod Checks
 pub mod Printed
+pub mod CheckRuns

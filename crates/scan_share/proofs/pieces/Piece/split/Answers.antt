@@ -1,0 +1,16 @@
+use Rattle.std.proofs.Common.{arith, ◌-◌, ◌<◌, ◌/◌, ◌^◌, ◌++◌, ◌∙◌, ap, sym, subst, ℕ}
+use Rattle.std.proofs.lemmas.Nat.{shr_below}
+use Rattle.scan_bits.specs.Words.{bits_of}
+use Rattle.scan_bits.proofs.WordLaws.{bits_of-append, bits_of-mod}
+use Rattle.scan_share.proofs.pieces.Piece.split.Goals as goal
+
+pub returns-clause-bits : goal.returns-clause-bits
+returns-clause-bits c =
+    let whole = sym (bits_of-append c.args.most (c.args.self.count - c.args.most) c.args.self.bits) in
+    (λ i. (ap (bits_of c.args.most) c.low_bits.ensures ∙ bits_of-mod c.args.most c.args.self.bits) i ++ bits_of (c.args.self.count - c.args.most) (c.args.self.bits / 2 ^ c.args.most))
+    ∙ whole ∙ ap (λ (n : ℕ). bits_of n c.args.self.bits) (omega (arith, c.if-self-most.false))
+
+pub returns-clause-rest : goal.returns-clause-rest
+returns-clause-rest c =
+    shr_below c.args.self.bits (c.args.self.count - c.args.most) c.args.most
+    (subst (λ (n : ℕ). c.args.self.bits < 2 ^ n) (omega (arith, c.if-self-most.false)) c.requires.bound)

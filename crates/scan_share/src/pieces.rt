@@ -1,0 +1,82 @@
+// Bits that come in pieces.
+ghost use Rattle.std.specs.Prelude.{◌≡◌, ◌≤◌, ◌<◌, ◌^◌, ◌%◌, ◌++◌, List, Bool, length, take, drop};
+ghost use Rattle.scan_bits.specs.Words.{bits_of, number_of};
+
+/// Up to 64 bits: the lowest `count` of `bits`, the lowest first. The others are 0.
+#[derive(Clone, Copy)]
+pub struct Piece {
+    pub count: u32,
+    pub bits: u64,
+}
+
+// The lowest bits of a word, so many.
+fn low_bits(word: u64, count: u32) -> u64
+    requires some { 1 ≤ count }
+    requires few { count ≤ 64 }
+    ensures { result ≡ word % 2 ^ count }
+{
+    word & (u64::MAX >> (64 - count))
+}
+
+impl Piece {
+    /// The first bits, at most `most` of them, and those behind them.
+    pub fn split(self, most: u32) -> (Piece, Piece)
+        requires some { 1 ≤ most }
+        requires left { 1 ≤ self.count }
+        requires few { self.count ≤ 64 }
+        requires bound { self.bits < 2 ^ self.count }
+        ensures bits { bits_of result.0.count result.0.bits ++ bits_of result.1.count result.1.bits ≡ bits_of self.count self.bits }
+        ensures some { 1 ≤ result.0.count }
+        ensures most { result.0.count ≤ most }
+        ensures bound { result.0.bits < 2 ^ result.0.count }
+        ensures rest { result.1.bits < 2 ^ result.1.count }
+        ensures few { result.1.count ≤ 64 }
+    {
+        if self.count <= most {
+            return (self, Piece { count: 0, bits: 0 });
+        }
+        let first = Piece {
+            count: most,
+            bits: low_bits(self.bits, most),
+        };
+        let rest = Piece {
+            count: self.count - most,
+            bits: self.bits >> most,
+        };
+        (first, rest)
+    }
+}
+
+/// Gives bits, as many at a time as are at hand.
+pub trait Pieces {
+    /// The bits that are left, the next one first.
+    ghost left: { Self → List Bool };
+
+    /// The next bits, at most `most` of them. They are left no more.
+    fn next(&mut self, most: u32) -> Piece
+        requires some { 1 ≤ most }
+        requires few { most ≤ 64 }
+        requires left { most ≤ length (left self.old) }
+        ensures left { bits_of result.count result.bits ++ left self.new ≡ left self.old }
+        ensures some { 1 ≤ result.count }
+        ensures few { result.count ≤ most }
+        ensures bound { result.bits < 2 ^ result.count };
+}
+
+/// The next `n` bits (1 to 64), the first of them as the lowest bit of the answer.
+pub fn taken<P: Pieces>(pieces: &mut P, n: u32) -> u64
+    requires some { 1 ≤ n }
+    requires few { n ≤ 64 }
+    requires left { n ≤ length (P.left pieces.old) }
+    ensures word { result ≡ number_of (take n (P.left pieces.old)) }
+    ensures left { P.left pieces.new ≡ drop n (P.left pieces.old) }
+{
+    let mut word = 0;
+    let mut done = 0;
+    while done < n {
+        let piece = pieces.next(n - done);
+        word |= piece.bits << done;
+        done += piece.count;
+    }
+    word
+}

@@ -1,0 +1,54 @@
+// How many bits a scan of data registers has.
+ghost use Rattle.std.specs.Prelude.{◌≡◌, ◌≤◌, ◌<◌, ◌*◌, ◌^◌, length};
+ghost use Rattle.std.specs.List.{All, sum_by};
+ghost use Rattle.scan_bits.specs.Words.{bits_of};
+ghost use Rattle.part_model.specs.Parts as parts;
+ghost use Rattle.scan_share.specs.PrivateChains.{entries_at};
+ghost use Rattle.scan_share.specs.Scans.{codes_of, scan_length};
+ghost use Rattle.scan_share.specs.Codes.{AreCodes};
+ghost use Rattle.scan_share.specs.Laws.{IsGroup};
+ghost use Rattle.scan_share.specs.Views.{codes_for};
+ghost use Rattle.grant_table.specs.Kept.{AllParts};
+ghost use Rattle.grant_table.specs.Layouts.{group_of};
+ghost use Rattle.scan_share.specs.Written.{group_widths};
+
+use crate::members::members;
+use grant_table::Layout;
+use part_model::Part;
+
+// The length of the register that a code selects.
+fn width(part: &Part, code: u64) -> usize
+    ensures is { result ≡ parts.width part.now (bits_of part.now.ir_length code) }
+    ensures bound { result < 2 ^ 32 }
+{
+    part.len_of(part.select(code)) as usize
+}
+
+// How many bits the registers of a group's devices have under these codes.
+fn own_length(layout: &Layout, group: &[usize], codes: &[u64]) -> usize
+    requires few { length group.now ≤ 32 }
+    requires within { All (λ place. place < length layout.now.parts) group.now }
+    requires coded { length codes.now ≡ length group.now }
+    ensures is { result ≡ sum_by (λ w. w) (group_widths layout.now group.now (codes_of (entries_at layout.now.parts group.now) codes.now)) }
+    ensures bound { result ≤ 32 * 2 ^ 32 }
+{
+    let mut sum = 0;
+    for i in 0..group.len() {
+        sum += width(layout.part(group[i]), codes[i]);
+    }
+    sum
+}
+
+// How many bits a scan for a grant has: those of its devices' registers, and one for each other device.
+pub fn scan_length(layout: &Layout, grant: usize, codes: &[u64]) -> usize
+    requires grant { grant < length layout.now.grants }
+    requires codes { AreCodes (entries_at layout.now.parts (group_of layout.now.grants grant)) codes.now }
+    ensures is { result ≡ scan_length layout.now (group_of layout.now.grants grant) (codes_for layout.now grant codes.now) }
+    ensures group { IsGroup layout.now (group_of layout.now.grants grant) }
+    ensures parts { AllParts layout.now.parts }
+    ensures some { 1 ≤ length layout.now.parts }
+    ensures few { length codes.now ≤ 32 }
+{
+    let group = members(layout, grant);
+    own_length(layout, group, codes) + layout.devices() - group.len()
+}
