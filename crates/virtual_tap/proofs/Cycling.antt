@@ -19,7 +19,7 @@ use Rattle.std.specs.List.{sum_by}
 use Rattle.scan_share.specs.Scans.{types_of, widths_during}
 use Rattle.virtual_tap.specs.Views.{StandsFor, EachLength, HasRegister}
 use Rattle.virtual_tap.specs.Instructions.{InstructionState, GroupInstructions, ArePlans, shifted_through, out_of, parts_of, stages_of, risen}
-use Rattle.virtual_tap.specs.Taps.{bits_shown, turned, risen_register, tells_tdo, tdo_shown, tap_of, row_register, row_instructions, shown_out, shifting, IsTap, KeepsTap, room_of, longest_scan}
+use Rattle.virtual_tap.specs.Taps.{bits_shown, turned, risen_register, tdo_shown, tap_of, row_register, row_instructions, shown_out, shifting, IsTap, KeepsTap, room_of, longest_scan}
 use Rattle.virtual_tap.proofs.Loaded.{parts_shifted}
 use Rattle.virtual_tap.proofs.Keeping.{parts_risen, shifted_fit, turned_fits, turned_there, turned_room}
 use Rattle.virtual_tap.proofs.Moving.{view_of, never, moves_rise, moves_fall}
@@ -73,8 +73,8 @@ pub out_some : (register : Option BitList) (list : BitList) (n tdi word : ℕ) �
     → word ≡ number_of (shown_out (unwrap_or (bits_shown register) []) (bits_of n tdi))
 out_some register list n tdi word found some is = is ∙ ap number_of (shown_shifted list.bits (bits_of n tdi) some) ∙ ap (λ r. number_of (shown_out (unwrap_or (bits_shown r) []) (bits_of n tdi))) (sym found)
 
-pub empty_stays : (register : Option BitList) (list : BitList) (bits : List Bool) → register ≡ Some list → length list.bits ≡ 0 → Some list ≡ turned bits register
-empty_stays register list bits found none = ap (λ left. Some (record { bits = left; room = list.room })) (sym (empty list.bits bits none)) ∙ ap (turned bits) (sym found)
+pub empty_stays : (register : Option BitList) (list : BitList) (bits : List Bool) → register ≡ Some list → length list.bits ≡ 0 → Some list ≡ turned true bits register
+empty_stays register list bits found none = ap (λ left. Some (record { bits = left; room = list.room })) (sym (empty list.bits bits none)) ∙ ap (turned true bits) (sym found)
   where
     empty : (register bits : List Bool) → length register ≡ 0 → shifted_all register bits ≡ register
     empty [] [] none = refl
@@ -89,18 +89,20 @@ through_more : (bit : Bool) (bits : List Bool) (rs : List InstructionState) → 
 through_more bit bits [] = refl
 through_more bit bits (r ∷ rs) = ap (λ rest. record { part = r.part; stage = shifted_all r.stage (bit ∷ bits) } ∷ rest) (through_more (lowest_or bit r.stage) (shifted_out (shifted r.stage bit) bits) rs)
 
-turned_more : (bit : Bool) (bits : List Bool) (register : Option BitList) → turned bits (turned (bit ∷ []) register) ≡ turned (bit ∷ bits) register
-turned_more bit bits None = refl
-turned_more bit bits (Some list) = refl
+turned_more : (is_open bit : Bool) (bits : List Bool) (register : Option BitList) → turned is_open bits (turned is_open (bit ∷ []) register) ≡ turned is_open (bit ∷ bits) register
+turned_more false bit bits register = refl
+turned_more true bit bits None = refl
+turned_more true bit bits (Some list) = refl
 
 stages_through : (bit : Bool) (rs : List InstructionState) → stages_of (shifted_through (bit ∷ []) rs) ≡ shifted_stages bit (stages_of rs)
 stages_through bit [] = refl
 stages_through bit (r ∷ rs) = ap (λ rest. shifted r.stage bit ∷ rest) (stages_through (lowest_or bit r.stage) rs)
 
-row_more_register : (state : Tap) (bit : Bool) (bits : List Bool) (register : Option BitList) → is_shift state ≡ true → row_register state bits (risen_register state bit register) ≡ row_register state (bit ∷ bits) register
-row_more_register ShiftDr bit bits register shifts = turned_more bit bits register
-row_more_register ShiftIr bit bits register shifts = refl
-row_more_register _ bit bits register shifts = never shifts
+row_more_register : (state : Tap) (is_open bit : Bool) (bits : List Bool) (register : Option BitList) → is_shift state ≡ true
+    → row_register state is_open bits (risen_register state is_open bit register) ≡ row_register state is_open (bit ∷ bits) register
+row_more_register ShiftDr is_open bit bits register shifts = turned_more is_open bit bits register
+row_more_register ShiftIr is_open bit bits register shifts = refl
+row_more_register _ is_open bit bits register shifts = never shifts
 
 row_more_instructions : (state : Tap) (bit : Bool) (bits : List Bool) (rs : List InstructionState) → is_shift state ≡ true → row_instructions state bits (risen state bit rs) ≡ row_instructions state (bit ∷ bits) rs
 row_more_instructions ShiftDr bit bits rs shifts = refl
@@ -108,16 +110,18 @@ row_more_instructions ShiftIr bit bits rs shifts = through_more bit bits rs
 row_more_instructions _ bit bits rs shifts = never shifts
 
 -- the register that shifts, after one shift
-shifting_more : (state : Tap) (bit : Bool) (register : Option BitList) (rs : List InstructionState) → is_shift state ≡ true → shifting state (risen_register state bit register) (risen state bit rs) ≡ shifted (shifting state register rs) bit
-shifting_more ShiftDr bit None rs shifts = refl
-shifting_more ShiftDr bit (Some list) rs shifts = refl
-shifting_more ShiftIr bit register rs shifts = ap joined (stages_through bit rs) ∙ joined-shifted (stages_of rs) bit
-shifting_more _ bit register rs shifts = never shifts
+shifting_more : (state : Tap) (is_open bit : Bool) (register : Option BitList) (rs : List InstructionState) → is_shift state ≡ true
+    → shifting state is_open (risen_register state is_open bit register) (risen state bit rs) ≡ shifted (shifting state is_open register rs) bit
+shifting_more ShiftDr false bit register rs shifts = refl
+shifting_more ShiftDr true bit None rs shifts = refl
+shifting_more ShiftDr true bit (Some list) rs shifts = refl
+shifting_more ShiftIr is_open bit register rs shifts = ap joined (stages_through bit rs) ∙ joined-shifted (stages_of rs) bit
+shifting_more _ is_open bit register rs shifts = never shifts
 
-tdo_shifting : (state : Tap) (register : Option BitList) (rs : List InstructionState) → is_shift state ≡ true → tdo_shown state (bits_shown register) (stages_of rs) ≡ lowest_or true (shifting state register rs)
-tdo_shifting ShiftDr register rs shifts = refl
-tdo_shifting ShiftIr register rs shifts = refl
-tdo_shifting _ register rs shifts = never shifts
+tdo_shifting : (state : Tap) (is_open : Bool) (register : Option BitList) (rs : List InstructionState) → is_shift state ≡ true → tdo_shown state is_open (bits_shown register) (stages_of rs) ≡ lowest_or true (shifting state is_open register rs)
+tdo_shifting ShiftDr is_open register rs shifts = refl
+tdo_shifting ShiftIr is_open register rs shifts = refl
+tdo_shifting _ is_open register rs shifts = never shifts
 
 -- ---- cycles
 
@@ -155,27 +159,27 @@ in_state chain state is = λ i. record chain { state = is i }
 
 -- what is shown after shifts in a state
 abbrev pub shown_after : Tap → Bool → GroupInstructions → List InstructionState → Option BitList → ChainState → Type 0
-shown_after state is_open g registers register chain = StandsFor (view_of state (tdo_shown state (bits_shown register) (stages_of registers)) is_open (record g { registers = registers }) register) chain
+shown_after state is_open g registers register chain = StandsFor (view_of state (tdo_shown state is_open (bits_shown register) (stages_of registers)) is_open (record g { registers = registers }) register) chain
 
-one_cycle : (state : Tap) (tdo is_open : Bool) (g : GroupInstructions) (register : Option BitList) (chain : ChainState) (bit : Bool) → is_shift state ≡ true → tells_tdo state is_open ≡ true → types_of chain ≡ parts_of g.registers
-    → StandsFor (view_of state tdo is_open g register) chain → shown_after state is_open g (risen state bit g.registers) (risen_register state bit register) (cycle chain (record { tms = false; tdi = bit }))
-one_cycle ShiftDr tdo is_open g register chain bit shifts told parts s =
+one_cycle : (state : Tap) (tdo is_open : Bool) (g : GroupInstructions) (register : Option BitList) (chain : ChainState) (bit : Bool) → is_shift state ≡ true → types_of chain ≡ parts_of g.registers
+    → StandsFor (view_of state tdo is_open g register) chain → shown_after state is_open g (risen state bit g.registers) (risen_register state is_open bit register) (cycle chain (record { tms = false; tdi = bit }))
+one_cycle ShiftDr tdo is_open g register chain bit shifts parts s =
     let types = subst (λ c. types_of (rise c false bit) ≡ types_of chain) (in_state chain ShiftDr s.state) (types_rise ShiftDr chain false bit refl) in
-    moves_fall ShiftDr tdo is_open g (turned (bit ∷ []) register) told refl (rise chain false bit) (types ∙ parts) (moves_rise ShiftDr tdo is_open g register false bit refl chain parts s)
-one_cycle ShiftIr tdo is_open g register chain bit shifts told parts s =
+    moves_fall ShiftDr tdo is_open g (turned is_open (bit ∷ []) register) refl (rise chain false bit) (types ∙ parts) (moves_rise ShiftDr tdo is_open g register false bit refl chain parts s)
+one_cycle ShiftIr tdo is_open g register chain bit shifts parts s =
     let types = subst (λ c. types_of (rise c false bit) ≡ types_of chain) (in_state chain ShiftIr s.state) (types_rise ShiftIr chain false bit refl) in
-    moves_fall ShiftIr tdo is_open (record g { registers = shifted_through (bit ∷ []) g.registers }) register told refl (rise chain false bit) (types ∙ parts ∙ sym (parts_shifted (bit ∷ []) g.registers))
+    moves_fall ShiftIr tdo is_open (record g { registers = shifted_through (bit ∷ []) g.registers }) register refl (rise chain false bit) (types ∙ parts ∙ sym (parts_shifted (bit ∷ []) g.registers))
     (moves_rise ShiftIr tdo is_open g register false bit refl chain parts s)
-one_cycle _ tdo is_open g register chain bit shifts told parts s = never shifts
+one_cycle _ tdo is_open g register chain bit shifts parts s = never shifts
 
 types_stay : (state : Tap) (chain : ChainState) (bit : Bool) (rs : List InstructionState) → is_shift state ≡ true → state ≡ chain.state → types_of chain ≡ parts_of rs → types_of (cycle chain (record { tms = false; tdi = bit })) ≡ parts_of (risen state bit rs)
 types_stay state chain bit rs shifts is parts =
     subst (λ c. types_of (cycle c (record { tms = false; tdi = bit })) ≡ types_of chain) (in_state chain state is) (types_cycle state chain bit shifts) ∙ parts ∙ sym (parts_risen state bit rs)
 
-row_one_register : (state : Tap) (bit : Bool) (register : Option BitList) → is_shift state ≡ true → risen_register state bit register ≡ row_register state (bit ∷ []) register
-row_one_register ShiftDr bit register shifts = refl
-row_one_register ShiftIr bit register shifts = refl
-row_one_register _ bit register shifts = never shifts
+row_one_register : (state : Tap) (is_open bit : Bool) (register : Option BitList) → is_shift state ≡ true → risen_register state is_open bit register ≡ row_register state is_open (bit ∷ []) register
+row_one_register ShiftDr is_open bit register shifts = refl
+row_one_register ShiftIr is_open bit register shifts = refl
+row_one_register _ is_open bit register shifts = never shifts
 
 row_one_instructions : (state : Tap) (bit : Bool) (rs : List InstructionState) → is_shift state ≡ true → risen state bit rs ≡ row_instructions state (bit ∷ []) rs
 row_one_instructions ShiftDr bit rs shifts = refl
@@ -186,71 +190,71 @@ both : (state : Tap) (is_open : Bool) (g : GroupInstructions) (rs rs' : List Ins
 both state is_open g rs rs' register register' chain same same' shown =
     subst (λ r. shown_after state is_open g rs' r chain) same' (subst (λ all. shown_after state is_open g all register chain) same shown)
 
-row_cycles : (bit : Bool) (bits : List Bool) (state : Tap) (tdo is_open : Bool) (g : GroupInstructions) (register : Option BitList) (chain : ChainState) → is_shift state ≡ true → tells_tdo state is_open ≡ true → types_of chain ≡ parts_of g.registers
+row_cycles : (bit : Bool) (bits : List Bool) (state : Tap) (tdo is_open : Bool) (g : GroupInstructions) (register : Option BitList) (chain : ChainState) → is_shift state ≡ true → types_of chain ≡ parts_of g.registers
     → StandsFor (view_of state tdo is_open g register) chain
-    → shown_after state is_open g (row_instructions state (bit ∷ bits) g.registers) (row_register state (bit ∷ bits) register) (after_cycles (still (bit ∷ bits)) chain)
-row_cycles bit [] state tdo is_open g register chain shifts told parts s =
-    both state is_open g (risen state bit g.registers) (row_instructions state (bit ∷ []) g.registers) (risen_register state bit register) (row_register state (bit ∷ []) register) (cycle chain (record { tms = false; tdi = bit }))
-    (row_one_instructions state bit g.registers shifts) (row_one_register state bit register shifts) (one_cycle state tdo is_open g register chain bit shifts told parts s)
-row_cycles bit (next ∷ bits) state tdo is_open g register chain shifts told parts s =
+    → shown_after state is_open g (row_instructions state (bit ∷ bits) g.registers) (row_register state is_open (bit ∷ bits) register) (after_cycles (still (bit ∷ bits)) chain)
+row_cycles bit [] state tdo is_open g register chain shifts parts s =
+    both state is_open g (risen state bit g.registers) (row_instructions state (bit ∷ []) g.registers) (risen_register state is_open bit register) (row_register state is_open (bit ∷ []) register) (cycle chain (record { tms = false; tdi = bit }))
+    (row_one_instructions state bit g.registers shifts) (row_one_register state is_open bit register shifts) (one_cycle state tdo is_open g register chain bit shifts parts s)
+row_cycles bit (next ∷ bits) state tdo is_open g register chain shifts parts s =
     let rs = risen state bit g.registers in
-    let now = risen_register state bit register in
+    let now = risen_register state is_open bit register in
     let after = cycle chain (record { tms = false; tdi = bit }) in
-    both state is_open g (row_instructions state (next ∷ bits) rs) (row_instructions state (bit ∷ next ∷ bits) g.registers) (row_register state (next ∷ bits) now) (row_register state (bit ∷ next ∷ bits) register)
+    both state is_open g (row_instructions state (next ∷ bits) rs) (row_instructions state (bit ∷ next ∷ bits) g.registers) (row_register state is_open (next ∷ bits) now) (row_register state is_open (bit ∷ next ∷ bits) register)
     (after_cycles (still (next ∷ bits)) after)
-    (row_more_instructions state bit (next ∷ bits) g.registers shifts) (row_more_register state bit (next ∷ bits) register shifts)
-    (row_cycles next bits state (tdo_shown state (bits_shown now) (stages_of rs)) is_open (record g { registers = rs }) now after shifts told (types_stay state chain bit g.registers shifts s.state parts)
-    (one_cycle state tdo is_open g register chain bit shifts told parts s))
+    (row_more_instructions state bit (next ∷ bits) g.registers shifts) (row_more_register state is_open bit (next ∷ bits) register shifts)
+    (row_cycles next bits state (tdo_shown state is_open (bits_shown now) (stages_of rs)) is_open (record g { registers = rs }) now after shifts (types_stay state chain bit g.registers shifts s.state parts)
+    (one_cycle state tdo is_open g register chain bit shifts parts s))
 
 -- ---- TDO
 
-row_answers : (bits : List Bool) (state : Tap) (tdo is_open : Bool) (g : GroupInstructions) (register : Option BitList) (chain : ChainState) → is_shift state ≡ true → tells_tdo state is_open ≡ true → types_of chain ≡ parts_of g.registers
-    → StandsFor (view_of state tdo is_open g register) chain → tdo ≡ lowest_or true (shifting state register g.registers) → answers (still bits) chain ≡ shown_out (shifting state register g.registers) bits
-row_answers [] state tdo is_open g register chain shifts told parts s shown = refl
-row_answers (bit ∷ bits) state tdo is_open g register chain shifts told parts s shown =
+row_answers : (bits : List Bool) (state : Tap) (tdo is_open : Bool) (g : GroupInstructions) (register : Option BitList) (chain : ChainState) → is_shift state ≡ true → types_of chain ≡ parts_of g.registers
+    → StandsFor (view_of state tdo is_open g register) chain → tdo ≡ lowest_or true (shifting state is_open register g.registers) → answers (still bits) chain ≡ shown_out (shifting state is_open register g.registers) bits
+row_answers [] state tdo is_open g register chain shifts parts s shown = refl
+row_answers (bit ∷ bits) state tdo is_open g register chain shifts parts s shown =
     let rs = risen state bit g.registers in
-    let now = risen_register state bit register in
+    let now = risen_register state is_open bit register in
     let first = sym s.tdo ∙ shown in
     let rest =
-    row_answers bits state (tdo_shown state (bits_shown now) (stages_of rs)) is_open (record g { registers = rs }) now (cycle chain (record { tms = false; tdi = bit })) shifts told
-    (types_stay state chain bit g.registers shifts s.state parts) (one_cycle state tdo is_open g register chain bit shifts told parts s) (tdo_shifting state now rs shifts)
-    ∙ ap (λ left. shown_out left bits) (shifting_more state bit register g.registers shifts) in
+    row_answers bits state (tdo_shown state is_open (bits_shown now) (stages_of rs)) is_open (record g { registers = rs }) now (cycle chain (record { tms = false; tdi = bit })) shifts
+    (types_stay state chain bit g.registers shifts s.state parts) (one_cycle state tdo is_open g register chain bit shifts parts s) (tdo_shifting state is_open now rs shifts)
+    ∙ ap (λ left. shown_out left bits) (shifting_more state is_open bit register g.registers shifts) in
     λ i. first i ∷ rest i
 
 -- the first answer is TDO as it stands
-first_answers : (bit : Bool) (bits : List Bool) (state : Tap) (tdo is_open : Bool) (g : GroupInstructions) (register : Option BitList) (chain : ChainState) → is_shift state ≡ true → tells_tdo state is_open ≡ true
-    → types_of chain ≡ parts_of g.registers → StandsFor (view_of state tdo is_open g register) chain → answers (still (bit ∷ bits)) chain ≡ tdo ∷ shown_out (shifted (shifting state register g.registers) bit) bits
-first_answers bit bits state tdo is_open g register chain shifts told parts s =
+first_answers : (bit : Bool) (bits : List Bool) (state : Tap) (tdo is_open : Bool) (g : GroupInstructions) (register : Option BitList) (chain : ChainState) → is_shift state ≡ true
+    → types_of chain ≡ parts_of g.registers → StandsFor (view_of state tdo is_open g register) chain → answers (still (bit ∷ bits)) chain ≡ tdo ∷ shown_out (shifted (shifting state is_open register g.registers) bit) bits
+first_answers bit bits state tdo is_open g register chain shifts parts s =
     let rs = risen state bit g.registers in
-    let now = risen_register state bit register in
+    let now = risen_register state is_open bit register in
     let rest =
-    row_answers bits state (tdo_shown state (bits_shown now) (stages_of rs)) is_open (record g { registers = rs }) now (cycle chain (record { tms = false; tdi = bit })) shifts told
-    (types_stay state chain bit g.registers shifts s.state parts) (one_cycle state tdo is_open g register chain bit shifts told parts s) (tdo_shifting state now rs shifts)
-    ∙ ap (λ left. shown_out left bits) (shifting_more state bit register g.registers shifts) in
+    row_answers bits state (tdo_shown state is_open (bits_shown now) (stages_of rs)) is_open (record g { registers = rs }) now (cycle chain (record { tms = false; tdi = bit })) shifts
+    (types_stay state chain bit g.registers shifts s.state parts) (one_cycle state tdo is_open g register chain bit shifts parts s) (tdo_shifting state is_open now rs shifts)
+    ∙ ap (λ left. shown_out left bits) (shifting_more state is_open bit register g.registers shifts) in
     λ i. sym s.tdo i ∷ rest i
 
 -- ---- by words
 
-pub moves_row : (n tdi : ℕ) (state : Tap) (tdo is_open : Bool) (g : GroupInstructions) (register : Option BitList) (chain : ChainState) → 1 ≤ n → is_shift state ≡ true → tells_tdo state is_open ≡ true → types_of chain ≡ parts_of g.registers
+pub moves_row : (n tdi : ℕ) (state : Tap) (tdo is_open : Bool) (g : GroupInstructions) (register : Option BitList) (chain : ChainState) → 1 ≤ n → is_shift state ≡ true → types_of chain ≡ parts_of g.registers
     → StandsFor (view_of state tdo is_open g register) chain
-    → shown_after state is_open g (row_instructions state (bits_of n tdi) g.registers) (row_register state (bits_of n tdi) register) (after_cycles (clocks_of n 0 tdi) chain)
-moves_row zero tdi state tdo is_open g register chain some shifts told parts s = absurd (omega (arith, some))
-moves_row (suc n) tdi state tdo is_open g register chain some shifts told parts s =
-    subst (λ cycles. shown_after state is_open g (row_instructions state (bits_of (suc n) tdi) g.registers) (row_register state (bits_of (suc n) tdi) register) (after_cycles cycles chain)) (sym (clocks_still (suc n) tdi))
-    (row_cycles (tdi % 2 == 1) (bits_of n (tdi / 2)) state tdo is_open g register chain shifts told parts s)
+    → shown_after state is_open g (row_instructions state (bits_of n tdi) g.registers) (row_register state is_open (bits_of n tdi) register) (after_cycles (clocks_of n 0 tdi) chain)
+moves_row zero tdi state tdo is_open g register chain some shifts parts s = absurd (omega (arith, some))
+moves_row (suc n) tdi state tdo is_open g register chain some shifts parts s =
+    subst (λ cycles. shown_after state is_open g (row_instructions state (bits_of (suc n) tdi) g.registers) (row_register state is_open (bits_of (suc n) tdi) register) (after_cycles cycles chain)) (sym (clocks_still (suc n) tdi))
+    (row_cycles (tdi % 2 == 1) (bits_of n (tdi / 2)) state tdo is_open g register chain shifts parts s)
 
 replaced : (first tdo : Bool) (rest word v : ℕ) → word ≡ bit_value first + 2 * rest → v ≡ bit_value tdo → word / 2 * 2 + v ≡ bit_value tdo + 2 * rest
 replaced first tdo rest word v is v_is = omega (arith, is, v_is, bit_value-lt first)
 
-pub answers_row : (n tdi : ℕ) (state : Tap) (tdo is_open : Bool) (g : GroupInstructions) (register : Option BitList) (chain : ChainState) (word v : ℕ) → 1 ≤ n → is_shift state ≡ true → tells_tdo state is_open ≡ true
-    → types_of chain ≡ parts_of g.registers → StandsFor (view_of state tdo is_open g register) chain → word ≡ number_of (shown_out (shifting state register g.registers) (bits_of n tdi)) → v ≡ bit_value tdo
+pub answers_row : (n tdi : ℕ) (state : Tap) (tdo is_open : Bool) (g : GroupInstructions) (register : Option BitList) (chain : ChainState) (word v : ℕ) → 1 ≤ n → is_shift state ≡ true
+    → types_of chain ≡ parts_of g.registers → StandsFor (view_of state tdo is_open g register) chain → word ≡ number_of (shown_out (shifting state is_open register g.registers) (bits_of n tdi)) → v ≡ bit_value tdo
     → word / 2 * 2 + v ≡ number_of (answers (clocks_of n 0 tdi) chain)
-answers_row zero tdi state tdo is_open g register chain word v some shifts told parts s is v_is = absurd (omega (arith, some))
-answers_row (suc n) tdi state tdo is_open g register chain word v some shifts told parts s is v_is =
+answers_row zero tdi state tdo is_open g register chain word v some shifts parts s is v_is = absurd (omega (arith, some))
+answers_row (suc n) tdi state tdo is_open g register chain word v some shifts parts s is v_is =
     let bit = tdi % 2 == 1 in
-    let stage = shifting state register g.registers in
+    let stage = shifting state is_open register g.registers in
     replaced (lowest_or true stage) tdo (number_of (shown_out (shifted stage bit) (bits_of n (tdi / 2)))) word v is v_is
-    ∙ ap number_of (sym (first_answers bit (bits_of n (tdi / 2)) state tdo is_open g register chain shifts told parts s))
+    ∙ ap number_of (sym (first_answers bit (bits_of n (tdi / 2)) state tdo is_open g register chain shifts parts s))
     ∙ ap (λ cycles. number_of (answers cycles chain)) (sym (clocks_still (suc n) tdi))
 
 -- ---- what always holds
@@ -272,24 +276,24 @@ stages_row : (state : Tap) (bits : List Bool) (rs : List InstructionState) → E
 stages_row ShiftIr bits rs fit = shifted_fit bits rs fit
 stages_row _ bits rs fit = fit
 
-fits_row : (state : Tap) (is_open : Bool) (count : ℕ) (bits : List Bool) (register : Option BitList) → HasRegister is_open count (bits_shown register) → HasRegister is_open count (bits_shown (row_register state bits register))
+fits_row : (state : Tap) (is_open : Bool) (count : ℕ) (bits : List Bool) (register : Option BitList) → HasRegister is_open count (bits_shown register) → HasRegister is_open count (bits_shown (row_register state is_open bits register))
 fits_row ShiftDr is_open count bits register has = turned_fits is_open count bits register has
 fits_row _ is_open count bits register has = has
 
-there_row : (state : Tap) (bits : List Bool) (register : Option BitList) → is_some (bits_shown (row_register state bits register)) ≡ is_some (bits_shown register)
-there_row ShiftDr bits register = turned_there bits register
-there_row _ bits register = refl
+there_row : (state : Tap) (is_open : Bool) (bits : List Bool) (register : Option BitList) → is_some (bits_shown (row_register state is_open bits register)) ≡ is_some (bits_shown register)
+there_row ShiftDr is_open bits register = turned_there is_open bits register
+there_row _ is_open bits register = refl
 
-room_row : (state : Tap) (bits : List Bool) (register : Option BitList) → room_of (row_register state bits register) ≡ room_of register
-room_row ShiftDr bits register = turned_room bits register
-room_row _ bits register = refl
+room_row : (state : Tap) (is_open : Bool) (bits : List Bool) (register : Option BitList) → room_of (row_register state is_open bits register) ≡ room_of register
+room_row ShiftDr is_open bits register = turned_room is_open bits register
+room_row _ is_open bits register = refl
 
 pub kept_row : (grant : ℕ) (state : Tap) (tdo now is_open : Bool) (g : GroupInstructions) (register : Option BitList) (bits : List Bool)
-    → KeepsTap (tap_of grant state tdo is_open g register) (tap_of grant state now is_open (record g { registers = row_instructions state bits g.registers }) (row_register state bits register))
-kept_row grant state tdo now is_open g register bits = record { grant = refl; parts = parts_row state bits g.registers; there = there_row state bits register; room = room_row state bits register }
+    → KeepsTap (tap_of grant state tdo is_open g register) (tap_of grant state now is_open (record g { registers = row_instructions state bits g.registers }) (row_register state is_open bits register))
+kept_row grant state tdo now is_open g register bits = record { grant = refl; parts = parts_row state bits g.registers; there = there_row state is_open bits register; room = room_row state is_open bits register }
 
 pub tap_row : (grant : ℕ) (state : Tap) (tdo now is_open : Bool) (g : GroupInstructions) (register : Option BitList) (bits : List Bool) → IsTap (tap_of grant state tdo is_open g register)
-    → IsTap (tap_of grant state now is_open (record g { registers = row_instructions state bits g.registers }) (row_register state bits register))
+    → IsTap (tap_of grant state now is_open (record g { registers = row_instructions state bits g.registers }) (row_register state is_open bits register))
 tap_row grant state tdo now is_open g register bits is =
     let same = sym (parts_row state bits g.registers) in
     record {
@@ -301,8 +305,8 @@ tap_row grant state tdo now is_open g register bits is =
             (subst (λ parts. HasRegister is_open (sum_by (λ width. width) (widths_during parts g.codes)) (bits_shown register)) same is.view.register_fits);
       };
       timed = is.timed;
-      roomy = λ there. subst (λ room. longest_scan (parts_of (row_instructions state bits g.registers)) ≤ room) (sym (room_row state bits register))
-          (subst (λ parts. longest_scan parts ≤ room_of register) same (is.roomy (sym (there_row state bits register) ∙ there)));
+      roomy = λ there. subst (λ room. longest_scan (parts_of (row_instructions state bits g.registers)) ≤ room) (sym (room_row state is_open bits register))
+          (subst (λ parts. longest_scan parts ≤ room_of register) same (is.roomy (sym (there_row state is_open bits register) ∙ there)));
       some = subst (λ parts. 0 < length parts) same is.some;
       plans = subst ArePlans same is.plans;
     }

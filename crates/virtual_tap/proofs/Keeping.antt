@@ -60,30 +60,32 @@ fallen_fit _ rs codes plans fit coded = coded
 
 -- ---- the data register
 
-pub turned_fits : (is_open : Bool) (count : ℕ) (bits : List Bool) (register : Option BitList) → HasRegister is_open count (bits_shown register) → HasRegister is_open count (bits_shown (turned bits register))
+pub turned_fits : (is_open : Bool) (count : ℕ) (bits : List Bool) (register : Option BitList) → HasRegister is_open count (bits_shown register) → HasRegister is_open count (bits_shown (turned is_open bits register))
 turned_fits false count bits register has = tt
 turned_fits true count bits None has = has
 turned_fits true count bits (Some list) has = length-shifted_all list.bits bits ∙ has
 
-risen_register_fits : (state : Tap) (is_open : Bool) (count : ℕ) (tdi : Bool) (register : Option BitList) → HasRegister is_open count (bits_shown register) → HasRegister is_open count (bits_shown (risen_register state tdi register))
+risen_register_fits : (state : Tap) (is_open : Bool) (count : ℕ) (tdi : Bool) (register : Option BitList) → HasRegister is_open count (bits_shown register) → HasRegister is_open count (bits_shown (risen_register state is_open tdi register))
 risen_register_fits ShiftDr is_open count tdi register has = turned_fits is_open count (tdi ∷ []) register has
 risen_register_fits _ is_open count tdi register has = has
 
-pub turned_there : (bits : List Bool) (register : Option BitList) → is_some (bits_shown (turned bits register)) ≡ is_some (bits_shown register)
-turned_there bits None = refl
-turned_there bits (Some list) = refl
+pub turned_there : (is_open : Bool) (bits : List Bool) (register : Option BitList) → is_some (bits_shown (turned is_open bits register)) ≡ is_some (bits_shown register)
+turned_there false bits register = refl
+turned_there true bits None = refl
+turned_there true bits (Some list) = refl
 
-pub turned_room : (bits : List Bool) (register : Option BitList) → room_of (turned bits register) ≡ room_of register
-turned_room bits None = refl
-turned_room bits (Some list) = refl
+pub turned_room : (is_open : Bool) (bits : List Bool) (register : Option BitList) → room_of (turned is_open bits register) ≡ room_of register
+turned_room false bits register = refl
+turned_room true bits None = refl
+turned_room true bits (Some list) = refl
 
-risen_there : (state : Tap) (tdi : Bool) (register : Option BitList) → is_some (bits_shown (risen_register state tdi register)) ≡ is_some (bits_shown register)
-risen_there ShiftDr tdi register = turned_there (tdi ∷ []) register
-risen_there _ tdi register = refl
+risen_there : (state : Tap) (is_open tdi : Bool) (register : Option BitList) → is_some (bits_shown (risen_register state is_open tdi register)) ≡ is_some (bits_shown register)
+risen_there ShiftDr is_open tdi register = turned_there is_open (tdi ∷ []) register
+risen_there _ is_open tdi register = refl
 
-risen_room : (state : Tap) (tdi : Bool) (register : Option BitList) → room_of (risen_register state tdi register) ≡ room_of register
-risen_room ShiftDr tdi register = turned_room (tdi ∷ []) register
-risen_room _ tdi register = refl
+risen_room : (state : Tap) (is_open tdi : Bool) (register : Option BitList) → room_of (risen_register state is_open tdi register) ≡ room_of register
+risen_room ShiftDr is_open tdi register = turned_room is_open (tdi ∷ []) register
+risen_room _ is_open tdi register = refl
 
 -- ---- when a scan may be open
 
@@ -110,16 +112,16 @@ codes_open _ rs codes may = refl
 -- ---- the virtual TAP
 
 pub kept_rise : (grant : ℕ) (state : Tap) (tdo is_open : Bool) (g : GroupInstructions) (register : Option BitList) (tms tdi : Bool)
-    → KeepsTap (tap_of grant state tdo is_open g register) (tap_of grant (next state tms) tdo is_open (record g { registers = risen state tdi g.registers }) (risen_register state tdi register))
+    → KeepsTap (tap_of grant state tdo is_open g register) (tap_of grant (next state tms) tdo is_open (record g { registers = risen state tdi g.registers }) (risen_register state is_open tdi register))
 kept_rise grant state tdo is_open g register tms tdi = record {
   grant = refl;
   parts = parts_risen state tdi g.registers;
-  there = risen_there state tdi register;
-  room = risen_room state tdi register;
+  there = risen_there state is_open tdi register;
+  room = risen_room state is_open tdi register;
 }
 
 pub tap_rise : (grant : ℕ) (state : Tap) (tdo is_open : Bool) (g : GroupInstructions) (register : Option BitList) (tms tdi : Bool) → ends_scan state is_open ≡ false → IsTap (tap_of grant state tdo is_open g register)
-    → IsTap (tap_of grant (next state tms) tdo is_open (record g { registers = risen state tdi g.registers }) (risen_register state tdi register))
+    → IsTap (tap_of grant (next state tms) tdo is_open (record g { registers = risen state tdi g.registers }) (risen_register state is_open tdi register))
 tap_rise grant state tdo is_open g register tms tdi stays is =
     let same = sym (parts_risen state tdi g.registers) in
     record {
@@ -131,8 +133,8 @@ tap_rise grant state tdo is_open g register tms tdi stays is =
             (subst (λ parts. HasRegister is_open (sum_by (λ width. width) (widths_during parts g.codes)) (bits_shown register)) same is.view.register_fits);
       };
       timed = λ there. next_open state tms is_open there stays (is.timed there);
-      roomy = λ there. subst (λ room. longest_scan (parts_of (risen state tdi g.registers)) ≤ room) (sym (risen_room state tdi register))
-          (subst (λ parts. longest_scan parts ≤ room_of register) same (is.roomy (sym (risen_there state tdi register) ∙ there)));
+      roomy = λ there. subst (λ room. longest_scan (parts_of (risen state tdi g.registers)) ≤ room) (sym (risen_room state is_open tdi register))
+          (subst (λ parts. longest_scan parts ≤ room_of register) same (is.roomy (sym (risen_there state is_open tdi register) ∙ there)));
       some = subst (λ parts. 0 < length parts) same is.some;
       plans = subst ArePlans same is.plans;
     }

@@ -1,21 +1,16 @@
 -- Where a scan is open, from edge to edge.
 use Rattle.std.proofs.Common.{◌≡◌, Bool, true, false, refl, sym, ◌∙◌}
 use Rattle.tap_states.specs.declared.Tap.{Tap}
-use Rattle.tap_states.specs.declared.Tap.TheVariants.{CaptureDr, ShiftDr, UpdateDr}
+use Rattle.tap_states.specs.declared.Tap.TheVariants.{CaptureDr, UpdateDr}
 use Rattle.tap_states.specs.States.{is_capture_dr, next}
 use Rattle.scan_share.specs.Timing.{may_scan}
-use Rattle.virtual_tap.specs.Taps.{ends_scan, tells_tdo}
+use Rattle.virtual_tap.specs.Taps.{ends_scan}
 use Rattle.virtual_tap.proofs.Moving.{never}
 
 -- behind a falling edge no scan waits to be closed
 pub low_stays : (state : Tap) (is_open : Bool) → is_open ≡ may_scan false state → ends_scan state is_open ≡ false
 low_stays UpdateDr is_open is = is
 low_stays _ is_open is = refl
-
--- TDO can be told
-pub tells : (tck : Bool) (state : Tap) (is_open : Bool) → is_open ≡ may_scan tck state → tells_tdo state is_open ≡ true
-tells tck ShiftDr is_open is = is
-tells tck _ is_open is = refl
 
 -- a rise that does not capture
 pub rise_scans : (state : Tap) (tms is_open : Bool) → is_capture_dr state ≡ false → is_open ≡ may_scan false state → is_open ≡ may_scan true (next state tms)

@@ -1,5 +1,5 @@
 -- The edges of a virtual TAP are those of each private chain that it stands for.
-use Rattle.std.proofs.Common.{◌≡◌, Bool, true, false, List, [], ◌∷◌, map, replicate, refl, sym, ap, subst, ◌∙◌, Some, None}
+use Rattle.std.proofs.Common.{◌≡◌, Bool, true, false, List, [], ◌∷◌, ◌++◌, map, replicate, refl, sym, ap, subst, ◌∙◌, Some, None}
 use Rattle.std.specs.declared.option.Option.{Option}
 use Rattle.std.specs.Option.{unwrap_or}
 use Rattle.tap_states.specs.declared.Tap.{Tap}
@@ -15,7 +15,7 @@ use Rattle.chain_model.proofs.Rows.{joined-dr}
 use Rattle.scan_share.specs.Scans.{types_of, code_list}
 use Rattle.virtual_tap.specs.Views.{TapView, StandsFor, HoldsStages, MovesAs, closed_view}
 use Rattle.virtual_tap.specs.Instructions.{InstructionState, GroupInstructions, at_power_up, captured, cleared, shifted_through, parts_of, stages_of, reset_codes_of, risen, fallen_codes}
-use Rattle.virtual_tap.specs.Taps.{bits_shown, turned, risen_register, ends_scan, tells_tdo, tdo_shown, tap_of}
+use Rattle.virtual_tap.specs.Taps.{bits_shown, data_stages, turned, risen_register, ends_scan, tdo_shown, tap_of}
 
 -- what such a virtual TAP shows
 abbrev pub view_of : Tap → Bool → Bool → GroupInstructions → Option BitList → TapView
@@ -69,15 +69,20 @@ ir_ir tdi (d ∷ ds) (r ∷ rs) same =
 -- ---- the joined register
 
 holds_same : (is_open : Bool) (register : Option (List Bool)) (ds now : List DeviceState) → dr_stages now ≡ dr_stages ds → HoldsStages is_open register ds → HoldsStages is_open register now
-holds_same false register ds now same holds = tt
+holds_same false register ds now same holds = ap joined same ∙ holds
 holds_same true register ds now same holds = holds ∙ ap (λ stages. Some (joined stages)) (sym same)
 
-holds_turned : (is_open : Bool) (register : Option BitList) (ds : List DeviceState) (tdi : Bool) → HoldsStages is_open (bits_shown register) ds → HoldsStages is_open (bits_shown (turned (tdi ∷ []) register)) (shifted_dr tdi ds)
-holds_turned false register ds tdi holds = tt
+holds_turned : (is_open : Bool) (register : Option BitList) (ds : List DeviceState) (tdi : Bool) → HoldsStages is_open (bits_shown register) ds → HoldsStages is_open (bits_shown (turned is_open (tdi ∷ []) register)) (shifted_dr tdi ds)
+holds_turned false register ds tdi holds = joined-dr ds tdi ∙ ap (λ bits. shifted bits tdi) holds
 holds_turned true None ds tdi holds = absurd (let q : None ≡ Some (joined (dr_stages ds)) = holds in cc)
 holds_turned true (Some list) ds tdi holds =
     let same : list.bits ≡ joined (dr_stages ds) = cc in
     ap (λ bits. Some bits) (ap (λ bits. shifted bits tdi) same ∙ sym (joined-dr ds tdi))
+
+-- devices whose data stages are empty
+no_stages : {X : Type 0} (f : X → DeviceState) → ((x : X) → (f x).dr_stage ≡ []) → (xs : List X) → joined (dr_stages (map f xs)) ≡ []
+no_stages f empty [] = refl
+no_stages f empty (x ∷ xs) = λ i. no_stages f empty xs i ++ empty x i
 
 -- the chain in the state that the view shows
 chain_as : (chain : ChainState) (state : Tap) (is_open : Bool) → state ≡ chain.state → is_open ≡ chain.scan_open → record chain { state = state; scan_open = is_open } ≡ chain
@@ -103,7 +108,7 @@ known_of state tdo is_open g register chain parts s = record {
 -- ---- the rising edge
 
 risen_stands : (state : Tap) (tdo is_open : Bool) (g : GroupInstructions) (register : Option BitList) (chain : ChainState) (tms tdi : Bool) → is_capture_dr state ≡ false → Known is_open tdo g register chain
-    → StandsFor (view_of (next state tms) tdo is_open (record g { registers = risen state tdi g.registers }) (risen_register state tdi register)) (rise (record chain { state = state; scan_open = is_open }) tms tdi)
+    → StandsFor (view_of (next state tms) tdo is_open (record g { registers = risen state tdi g.registers }) (risen_register state is_open tdi register)) (rise (record chain { state = state; scan_open = is_open }) tms tdi)
 risen_stands CaptureDr tdo is_open g register chain tms tdi other k = never (sym other)
 risen_stands ShiftDr tdo is_open g register chain tms tdi other k = record {
   state = refl;
@@ -135,22 +140,23 @@ risen_stands ShiftIr tdo is_open g register chain tms tdi other k = record {
 risen_stands _ tdo is_open g register chain tms tdi other k = record { state = refl; tdo = k.tdo_is; codes = k.codes; ir_stages = k.ir; scan = refl; register = k.holds }
 
 pub moves_rise : (state : Tap) (tdo is_open : Bool) (g : GroupInstructions) (register : Option BitList) (tms tdi : Bool) → is_capture_dr state ≡ false
-    → MovesAs (parts_of g.registers) (λ chain. rise chain tms tdi) (view_of state tdo is_open g register) (view_of (next state tms) tdo is_open (record g { registers = risen state tdi g.registers }) (risen_register state tdi register))
+    → MovesAs (parts_of g.registers) (λ chain. rise chain tms tdi) (view_of state tdo is_open g register) (view_of (next state tms) tdo is_open (record g { registers = risen state tdi g.registers }) (risen_register state is_open tdi register))
 moves_rise state tdo is_open g register tms tdi other chain parts s =
-    subst (λ c. StandsFor (view_of (next state tms) tdo is_open (record g { registers = risen state tdi g.registers }) (risen_register state tdi register)) (rise c tms tdi))
+    subst (λ c. StandsFor (view_of (next state tms) tdo is_open (record g { registers = risen state tdi g.registers }) (risen_register state is_open tdi register)) (rise c tms tdi))
     (chain_as chain state is_open s.state s.scan)
     (risen_stands state tdo is_open g register chain tms tdi other (known_of state tdo is_open g register chain parts s))
 
 -- ---- the falling edge
 
-shown_dr : (register : Option BitList) (ds : List DeviceState) → HoldsStages true (bits_shown register) ds → lowest_or true (unwrap_or (bits_shown register) []) ≡ lowest_or true (joined (dr_stages ds))
-shown_dr register ds holds = ap (λ o. lowest_or true (unwrap_or o [])) holds
+shown_dr : (is_open : Bool) (register : Option BitList) (ds : List DeviceState) → HoldsStages is_open (bits_shown register) ds → lowest_or true (data_stages is_open (bits_shown register)) ≡ lowest_or true (joined (dr_stages ds))
+shown_dr false register ds holds = ap (lowest_or true) (sym holds)
+shown_dr true register ds holds = ap (λ o. lowest_or true (unwrap_or o [])) holds
 
-fallen_stands : (state : Tap) (tdo is_open : Bool) (g : GroupInstructions) (register : Option BitList) (chain : ChainState) → tells_tdo state is_open ≡ true → ends_scan state is_open ≡ false → Known is_open tdo g register chain
-    → StandsFor (view_of state (tdo_shown state (bits_shown register) (stages_of g.registers)) is_open (record g { codes = fallen_codes state g.registers g.codes }) register) (fall (record chain { state = state; scan_open = is_open }))
-fallen_stands UpdateDr tdo true g register chain told stays k = never (sym stays)
-fallen_stands UpdateDr tdo false g register chain told stays k = record { state = refl; tdo = refl; codes = k.codes; ir_stages = k.ir; scan = refl; register = k.holds }
-fallen_stands UpdateIr tdo is_open g register chain told stays k = record {
+fallen_stands : (state : Tap) (tdo is_open : Bool) (g : GroupInstructions) (register : Option BitList) (chain : ChainState) → ends_scan state is_open ≡ false → Known is_open tdo g register chain
+    → StandsFor (view_of state (tdo_shown state is_open (bits_shown register) (stages_of g.registers)) is_open (record g { codes = fallen_codes state g.registers g.codes }) register) (fall (record chain { state = state; scan_open = is_open }))
+fallen_stands UpdateDr tdo true g register chain stays k = never (sym stays)
+fallen_stands UpdateDr tdo false g register chain stays k = record { state = refl; tdo = refl; codes = k.codes; ir_stages = k.ir; scan = refl; register = k.holds }
+fallen_stands UpdateIr tdo is_open g register chain stays k = record {
   state = refl;
   tdo = refl;
   scan = refl;
@@ -158,7 +164,7 @@ fallen_stands UpdateIr tdo is_open g register chain told stays k = record {
   ir_stages = k.ir ∙ sym (fuse (λ (device : DeviceState). device.ir_stage) update_ir chain.devices);
   register = holds_same is_open (bits_shown register) chain.devices (map update_ir chain.devices) (fuse (λ (device : DeviceState). device.dr_stage) update_ir chain.devices) k.holds;
 }
-fallen_stands TestLogicReset tdo is_open g register chain told stays k = record {
+fallen_stands TestLogicReset tdo is_open g register chain stays k = record {
   state = refl;
   tdo = refl;
   scan = refl;
@@ -166,9 +172,8 @@ fallen_stands TestLogicReset tdo is_open g register chain told stays k = record 
   ir_stages = k.ir ∙ sym (fuse (λ (device : DeviceState). device.ir_stage) reset_code chain.devices);
   register = holds_same is_open (bits_shown register) chain.devices (map reset_code chain.devices) (fuse (λ (device : DeviceState). device.dr_stage) reset_code chain.devices) k.holds;
 }
-fallen_stands ShiftDr tdo false g register chain told stays k = never told
-fallen_stands ShiftDr tdo true g register chain told stays k = record { state = refl; tdo = shown_dr register chain.devices k.holds; codes = k.codes; ir_stages = k.ir; scan = refl; register = k.holds }
-fallen_stands ShiftIr tdo is_open g register chain told stays k = record {
+fallen_stands ShiftDr tdo is_open g register chain stays k = record { state = refl; tdo = shown_dr is_open register chain.devices k.holds; codes = k.codes; ir_stages = k.ir; scan = refl; register = k.holds }
+fallen_stands ShiftIr tdo is_open g register chain stays k = record {
   state = refl;
   tdo = ap (λ stages. lowest_or true (joined stages)) k.ir;
   codes = k.codes;
@@ -176,33 +181,33 @@ fallen_stands ShiftIr tdo is_open g register chain told stays k = record {
   scan = refl;
   register = k.holds;
 }
-fallen_stands _ tdo is_open g register chain told stays k = record { state = refl; tdo = refl; codes = k.codes; ir_stages = k.ir; scan = refl; register = k.holds }
+fallen_stands _ tdo is_open g register chain stays k = record { state = refl; tdo = refl; codes = k.codes; ir_stages = k.ir; scan = refl; register = k.holds }
 
-pub moves_fall : (state : Tap) (tdo is_open : Bool) (g : GroupInstructions) (register : Option BitList) → tells_tdo state is_open ≡ true → ends_scan state is_open ≡ false
-    → MovesAs (parts_of g.registers) fall (view_of state tdo is_open g register) (view_of state (tdo_shown state (bits_shown register) (stages_of g.registers)) is_open (record g { codes = fallen_codes state g.registers g.codes }) register)
-moves_fall state tdo is_open g register told stays chain parts s =
-    subst (λ c. StandsFor (view_of state (tdo_shown state (bits_shown register) (stages_of g.registers)) is_open (record g { codes = fallen_codes state g.registers g.codes }) register) (fall c))
+pub moves_fall : (state : Tap) (tdo is_open : Bool) (g : GroupInstructions) (register : Option BitList) → ends_scan state is_open ≡ false
+    → MovesAs (parts_of g.registers) fall (view_of state tdo is_open g register) (view_of state (tdo_shown state is_open (bits_shown register) (stages_of g.registers)) is_open (record g { codes = fallen_codes state g.registers g.codes }) register)
+moves_fall state tdo is_open g register stays chain parts s =
+    subst (λ c. StandsFor (view_of state (tdo_shown state is_open (bits_shown register) (stages_of g.registers)) is_open (record g { codes = fallen_codes state g.registers g.codes }) register) (fall c))
     (chain_as chain state is_open s.state s.scan)
-    (fallen_stands state tdo is_open g register chain told stays (known_of state tdo is_open g register chain parts s))
+    (fallen_stands state tdo is_open g register chain stays (known_of state tdo is_open g register chain parts s))
 
 -- where it ends the scan
 closed_stands : (state : Tap) (tdo is_open : Bool) (g : GroupInstructions) (register : Option BitList) (chain : ChainState) → ends_scan state is_open ≡ true → Known is_open tdo g register chain
-    → StandsFor (closed_view (view_of state (tdo_shown state (bits_shown register) (stages_of g.registers)) is_open (record g { codes = fallen_codes state g.registers g.codes }) register)) (fall (record chain { state = state; scan_open = is_open }))
+    → StandsFor (closed_view (view_of state (tdo_shown state is_open (bits_shown register) (stages_of g.registers)) is_open (record g { codes = fallen_codes state g.registers g.codes }) register)) (fall (record chain { state = state; scan_open = is_open }))
 closed_stands UpdateDr tdo false g register chain ends k = never ends
 closed_stands UpdateDr tdo true g register chain ends k = record {
   state = refl;
   tdo = refl;
   scan = refl;
-  register = tt;
+  register = no_stages update_device (λ device. refl) chain.devices;
   codes = k.codes ∙ sym (fuse (λ (device : DeviceState). device.code) update_device chain.devices);
   ir_stages = k.ir ∙ sym (fuse (λ (device : DeviceState). device.ir_stage) update_device chain.devices);
 }
 closed_stands _ tdo is_open g register chain ends k = never ends
 
 pub closes_fall : (state : Tap) (tdo is_open : Bool) (g : GroupInstructions) (register : Option BitList) → ends_scan state is_open ≡ true
-    → MovesAs (parts_of g.registers) fall (view_of state tdo is_open g register) (closed_view (view_of state (tdo_shown state (bits_shown register) (stages_of g.registers)) is_open (record g { codes = fallen_codes state g.registers g.codes }) register))
+    → MovesAs (parts_of g.registers) fall (view_of state tdo is_open g register) (closed_view (view_of state (tdo_shown state is_open (bits_shown register) (stages_of g.registers)) is_open (record g { codes = fallen_codes state g.registers g.codes }) register))
 closes_fall state tdo is_open g register ends chain parts s =
-    subst (λ c. StandsFor (closed_view (view_of state (tdo_shown state (bits_shown register) (stages_of g.registers)) is_open (record g { codes = fallen_codes state g.registers g.codes }) register)) (fall c))
+    subst (λ c. StandsFor (closed_view (view_of state (tdo_shown state is_open (bits_shown register) (stages_of g.registers)) is_open (record g { codes = fallen_codes state g.registers g.codes }) register)) (fall c))
     (chain_as chain state is_open s.state s.scan)
     (closed_stands state tdo is_open g register chain ends (known_of state tdo is_open g register chain parts s))
 
@@ -214,7 +219,7 @@ moves_reset state tdo is_open g register shut chain parts s = record {
   state = refl;
   tdo = refl;
   scan = shut;
-  register = tt;
+  register = no_stages reset_device (λ device. refl) chain.devices;
   codes = sym (by_parts (λ part. part.reset_code) chain.devices g.registers parts) ∙ sym (fuse (λ (device : DeviceState). device.code) reset_device chain.devices);
   ir_stages =
       fuse (λ (register : InstructionState). register.stage) cleared g.registers
@@ -240,7 +245,7 @@ stands_powered boards nets register = record {
   state = refl;
   tdo = refl;
   scan = refl;
-  register = tt;
+  register = no_stages powered_device (λ board. refl) boards;
   codes =
       fuse (λ (register : InstructionState). register.part.reset_code) at_power_up (map (λ board. board.part) boards)
       ∙ fuse (λ (part : DeviceType). part.reset_code) (λ (board : Placed). board.part) boards
@@ -255,4 +260,4 @@ pub stands_new : (g : GroupInstructions) (boards : List Placed) (nets : List Net
     → StandsFor (record { state = TestLogicReset; tdo = true; codes = g.codes; ir_stages = stages_of g.registers; scan_open = false; register = Some register }) (powered boards nets)
 stands_new g boards nets register registers codes =
     let s = stands_powered boards nets register in
-    record { state = refl; tdo = refl; scan = refl; register = tt; codes = codes ∙ ap reset_codes_of registers ∙ s.codes; ir_stages = ap stages_of registers ∙ s.ir_stages }
+    record { state = refl; tdo = refl; scan = refl; register = s.register; codes = codes ∙ ap reset_codes_of registers ∙ s.codes; ir_stages = ap stages_of registers ∙ s.ir_stages }

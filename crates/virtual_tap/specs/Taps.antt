@@ -56,16 +56,16 @@ at_update view = ends_scan view.state view.scan_open
 abbrev pub ScansAt : (tck : Bool) → TapView → Type 0
 ScansAt tck view = view.scan_open ≡ may_scan tck view.state
 
--- TDO can be told in this state: in Shift-DR it is that of an open scan
-abbrev pub tells_tdo : Tap → Bool → Bool
-tells_tdo ShiftDr scan_open = scan_open
-tells_tdo _ scan_open = true
+-- the data stages together: the register while a scan is open, and no bit while none is
+abbrev pub data_stages : (scan_open : Bool) → Option (List Bool) → List Bool
+data_stages false register = []
+data_stages true register = unwrap_or register []
 
 -- TDO of these stages: the lowest bit of the register that shifts, and 1 where none does
-abbrev pub tdo_shown : Tap → Option (List Bool) → List (List Bool) → Bool
-tdo_shown ShiftDr register stages = lowest_or true (unwrap_or register [])
-tdo_shown ShiftIr register stages = lowest_or true (joined stages)
-tdo_shown _ register stages = true
+abbrev pub tdo_shown : Tap → (scan_open : Bool) → Option (List Bool) → List (List Bool) → Bool
+tdo_shown ShiftDr scan_open register stages = lowest_or true (data_stages scan_open register)
+tdo_shown ShiftIr scan_open register stages = lowest_or true (joined stages)
+tdo_shown _ scan_open register stages = true
 
 -- ---- the fields of a virtual TAP
 
@@ -79,20 +79,21 @@ abbrev pub room_of : Option BitList → ℕ
 room_of None = 0
 room_of (Some list) = list.room
 
--- a register after a row of shifts
-abbrev pub turned : List Bool → Option BitList → Option BitList
-turned bits None = None
-turned bits (Some list) = Some (record { bits = shifted_all list.bits bits; room = list.room })
+-- the register after a row of shifts; with no scan open it rests
+abbrev pub turned : (scan_open : Bool) → List Bool → Option BitList → Option BitList
+turned false bits register = register
+turned true bits None = None
+turned true bits (Some list) = Some (record { bits = shifted_all list.bits bits; room = list.room })
 
 -- what the register does on a rising edge
-abbrev pub risen_register : Tap → Bool → Option BitList → Option BitList
-risen_register ShiftDr tdi register = turned (tdi ∷ []) register
-risen_register _ tdi register = register
+abbrev pub risen_register : Tap → (scan_open tdi : Bool) → Option BitList → Option BitList
+risen_register ShiftDr scan_open tdi register = turned scan_open (tdi ∷ []) register
+risen_register _ scan_open tdi register = register
 
 -- a row of shifts in this state, at the data register and at the instruction registers
-abbrev pub row_register : Tap → List Bool → Option BitList → Option BitList
-row_register ShiftDr bits register = turned bits register
-row_register _ bits register = register
+abbrev pub row_register : Tap → (scan_open : Bool) → List Bool → Option BitList → Option BitList
+row_register ShiftDr scan_open bits register = turned scan_open bits register
+row_register _ scan_open bits register = register
 
 abbrev pub row_instructions : Tap → List Bool → List InstructionState → List InstructionState
 row_instructions ShiftIr bits registers = shifted_through bits registers
@@ -104,9 +105,9 @@ shown_out register [] = []
 shown_out register (tdi ∷ more) = lowest_or true register ∷ shown_out (shifted register tdi) more
 
 -- the register that shifts in this state
-abbrev pub shifting : Tap → Option BitList → List InstructionState → List Bool
-shifting ShiftDr register registers = unwrap_or (bits_shown register) []
-shifting _ register registers = joined (stages_of registers)
+abbrev pub shifting : Tap → (scan_open : Bool) → Option BitList → List InstructionState → List Bool
+shifting ShiftDr scan_open register registers = data_stages scan_open (bits_shown register)
+shifting _ scan_open register registers = joined (stages_of registers)
 
 -- the virtual TAP of these fields
 abbrev pub tap_of : ℕ → Tap → Bool → Bool → GroupInstructions → Option BitList → VTapState

@@ -21,9 +21,10 @@ pub record TapView : Type 0 where
   pub scan_open : Bool
   pub register : Option (List Bool)
 
--- while a scan is open, the register has the bits of the devices' data stages, those of the last device first
+-- while a scan is open, the register has the bits of the devices' data stages, those of the last device first; with no scan open, the
+-- devices' data stages are empty
 abbrev pub HoldsStages : Bool → Option (List Bool) → List DeviceState → Type 0
-HoldsStages false register devices = Unit {0}
+HoldsStages false register devices = joined (dr_stages devices) ≡ []
 HoldsStages true register devices = register ≡ Some (joined (dr_stages devices))
 
 -- the view stands for a private chain, whatever the devices of the chain hold

@@ -12,7 +12,7 @@ ghost use Rattle.scan_share.specs.PrivateChains.{entries_at, private_chain};
 ghost use Rattle.scan_share.specs.Scans.{codes_of, types_of, widths_during};
 ghost use Rattle.virtual_tap.specs.Views.{IsView, StandsFor, MovesAs, at_capture, closed_view, opened_view};
 ghost use Rattle.virtual_tap.specs.Instructions.{AreCodes, at_power_up, parts_of, reset_codes_of};
-ghost use Rattle.virtual_tap.specs.Taps.{IsOfLayout, KeepsTap, VTapState, at_update, longest_scan, may_be_open, tells_tdo};
+ghost use Rattle.virtual_tap.specs.Taps.{IsOfLayout, KeepsTap, VTapState, at_update, longest_scan, may_be_open};
 
 use crate::edges::{ends_scan, rise_register, shift, tdo_of};
 use crate::instruction_registers::InstructionRegisters;
@@ -164,16 +164,15 @@ impl VTap {
         ensures moved { is_capture_dr self.old.view.state ≡ false → MovesAs self.old.parts (λ chain. rise chain tms tdi) self.old.view self.new.view }
         ensures left { is_capture_dr self.old.view.state ≡ true → self.new.view ≡ record self.old.view { state = next self.old.view.state tms } }
     {
-        rise_register(&mut self.register, self.state, tdi);
+        rise_register(&mut self.register, self.state, self.scan_open, tdi);
         self.instructions.rise(self.state, tdi);
         self.state = self.state.next(tms);
     }
 
     /// A falling edge of TCK. True exactly in Update-DR with the scan open: then the data register holds what is to be latched, and the
-    /// scan stays open until `close_scan`. In Shift-DR a scan is open.
+    /// scan stays open until `close_scan`. In Shift-DR with no scan open, TDO becomes 1.
     pub fn fall(&mut self, layout: &Layout) -> bool
         requires layout { IsOfLayout layout.now self.old }
-        requires told { tells_tdo self.old.view.state self.old.view.scan_open ≡ true }
         ensures is { result ≡ at_update self.old.view }
         ensures kept { KeepsTap self.old self.new }
         ensures state { self.new.view.state ≡ self.old.view.state }
@@ -184,16 +183,21 @@ impl VTap {
         ensures closing { result ≡ true → MovesAs self.old.parts fall self.old.view (closed_view self.new.view) }
     {
         self.instructions.fall(self.state);
-        self.tdo = tdo_of(self.state, &self.register, &self.instructions);
+        self.tdo = tdo_of(
+            self.state,
+            self.scan_open,
+            &self.register,
+            &self.instructions,
+        );
         ends_scan(self.state, self.scan_open)
     }
 
-    /// `n` cycles of TCK with TMS 0 at once, in Shift-DR, where a scan is open, or in Shift-IR; each is a rise and then a fall. Bit i of
-    /// `tdi` belongs to cycle i, counted from 0. Bit i of the answer is TDO before the rise of cycle i; its bits from `n` on are 0.
+    /// `n` cycles of TCK with TMS 0 at once, in Shift-DR or Shift-IR; each is a rise and then a fall. Bit i of `tdi` belongs to cycle i,
+    /// counted from 0. Bit i of the answer is TDO before the rise of cycle i; its bits from `n` on are 0. In Shift-DR with no scan open,
+    /// TDO is 1 behind each fall: bits 1 to `n` - 1 of the answer are 1.
     pub fn shift(&mut self, layout: &Layout, n: u32, tdi: u64) -> u64
         requires layout { IsOfLayout layout.now self.old }
         requires state { is_shift self.old.view.state ≡ true }
-        requires told { tells_tdo self.old.view.state self.old.view.scan_open ≡ true }
         requires count { (1 ≤ n) × (n ≤ 64) }
         ensures kept { KeepsTap self.old self.new }
         ensures state { self.new.view.state ≡ self.old.view.state }
@@ -207,11 +211,17 @@ impl VTap {
             &mut self.register,
             &mut self.instructions,
             self.state,
+            self.scan_open,
             n,
             tdi,
         );
         let out = word / 2 * 2 + u64::from(self.tdo);
-        self.tdo = tdo_of(self.state, &self.register, &self.instructions);
+        self.tdo = tdo_of(
+            self.state,
+            self.scan_open,
+            &self.register,
+            &self.instructions,
+        );
         out
     }
 

@@ -1,4 +1,4 @@
-use Rattle.virtual_tap.proofs.Levels.{low_stays, tells, rise_scans, open_scans, fall_scans, closed_scans}
+use Rattle.virtual_tap.proofs.Levels.{low_stays, rise_scans, open_scans, fall_scans, closed_scans}
 use Rattle.virtual_tap.proofs.scans_have_their_states.Goals as goal
 
 pub returns-clause-rise : goal.returns-clause-rise
@@ -15,6 +15,3 @@ returns-clause-closed c = closed_scans
 
 pub returns-clause-low : goal.returns-clause-low
 returns-clause-low c = low_stays
-
-pub returns-clause-told : goal.returns-clause-told
-returns-clause-told c = tells

@@ -1,5 +1,3 @@
-use Rattle.std.proofs.Common.{◌≡◌, true, ◌∙◌, ap}
-use Rattle.virtual_tap.specs.Taps.{VTapState, tells_tdo}
 use Rattle.virtual_tap.proofs.Keeping.{tap_fall}
 use Rattle.virtual_tap.proofs.Moving.{moves_fall, closes_fall}
 use Rattle.virtual_tap.proofs.vtap.VTap.fall.Goals as goal
@@ -10,8 +8,7 @@ invariant_of-self c =
 
 pub returns-clause-moved : goal.returns-clause-moved
 returns-clause-moved c =
-    let told : tells_tdo c.self.inside.state c.self.inside.scan_open ≡ true = ap (λ (tap : VTapState). tells_tdo tap.view.state tap.view.scan_open) c.self.view_is ∙ c.requires.told in
-    rw (← c.self.view_is, c.tdo_of-self-inside.ensures, c.fall.ensures, c.ends_scan.ensures) (λ stays. moves_fall c.self.inside.state c.self.inside.tdo c.self.inside.scan_open c.self.inside.instructions c.self.inside.register told stays)
+    rw (← c.self.view_is, c.tdo_of-self-inside.ensures, c.fall.ensures, c.ends_scan.ensures) (λ stays. moves_fall c.self.inside.state c.self.inside.tdo c.self.inside.scan_open c.self.inside.instructions c.self.inside.register stays)
 
 pub returns-clause-closing : goal.returns-clause-closing
 returns-clause-closing c =

@@ -1,7 +1,7 @@
 use Rattle.std.proofs.Common.{◌≡◌, ◌∙◌, ap, true, rules}
 use Rattle.tap_states.specs.States.{is_shift}
 use Rattle.scan_bits.specs.Words.{bits_of, bit_value}
-use Rattle.virtual_tap.specs.Taps.{VTapState, tells_tdo}
+use Rattle.virtual_tap.specs.Taps.{VTapState}
 use Rattle.virtual_tap.proofs.Cycling.{moves_row, answers_row, joined_some, kept_row, tap_row}
 use Rattle.virtual_tap.proofs.vtap.VTap.shift.Goals as goal
 
@@ -21,14 +21,12 @@ returns-clause-kept c =
 pub returns-clause-moved : goal.returns-clause-moved
 returns-clause-moved c =
     let shifts : is_shift c.self.inside.state ≡ true = ap (λ (tap : VTapState). is_shift tap.view.state) c.self.view_is ∙ c.requires.state in
-    let told : tells_tdo c.self.inside.state c.self.inside.scan_open ≡ true = ap (λ (tap : VTapState). tells_tdo tap.view.state tap.view.scan_open) c.self.view_is ∙ c.requires.told in
     rw (← c.self.view_is, c.tdo_of-self-inside.ensures, c.shift-word.ensures.instructions, c.shift-word.ensures.register)
-    (λ chain parts s. moves_row c.args.n c.args.tdi c.self.inside.state c.self.inside.tdo c.self.inside.scan_open c.self.inside.instructions c.self.inside.register chain c.requires.count.0 shifts told parts s)
+    (λ chain parts s. moves_row c.args.n c.args.tdi c.self.inside.state c.self.inside.tdo c.self.inside.scan_open c.self.inside.instructions c.self.inside.register chain c.requires.count.0 shifts parts s)
 
 pub returns-clause-out : goal.returns-clause-out
 returns-clause-out c =
     let shifts : is_shift c.self.inside.state ≡ true = ap (λ (tap : VTapState). is_shift tap.view.state) c.self.view_is ∙ c.requires.state in
-    let told : tells_tdo c.self.inside.state c.self.inside.scan_open ≡ true = ap (λ (tap : VTapState). tells_tdo tap.view.state tap.view.scan_open) c.self.view_is ∙ c.requires.told in
     let bit : c.from.result ≡ bit_value c.self.inside.tdo = search rules in
     rw (← c.self.view_is)
-    (λ chain parts s. answers_row c.args.n c.args.tdi c.self.inside.state c.self.inside.tdo c.self.inside.scan_open c.self.inside.instructions c.self.inside.register chain c.shift-word.result c.from.result c.requires.count.0 shifts told parts s c.shift-word.ensures.out bit)
+    (λ chain parts s. answers_row c.args.n c.args.tdi c.self.inside.state c.self.inside.tdo c.self.inside.scan_open c.self.inside.instructions c.self.inside.register chain c.shift-word.result c.from.result c.requires.count.0 shifts parts s c.shift-word.ensures.out bit)
