@@ -1,2 +1,5 @@
 pub mod KeyLaws
 pub mod DocumentLaws
+pub mod Chains
+pub mod Values
+pub mod Formats

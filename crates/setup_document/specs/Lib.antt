@@ -1,2 +1,4 @@
 pub mod Keys
 pub mod Documents
+pub mod Format
+pub mod Laws

@@ -4,10 +4,12 @@
 mod document;
 mod entries;
 mod keys;
+mod laws;
 mod lists;
 mod plan;
 #[cfg(test)]
 mod tests;
 
 pub use document::read_document;
+pub use laws::files_have_format;
 pub use plan::{DeviceEntry, DocumentRefusal, Place, SetupPlan};
