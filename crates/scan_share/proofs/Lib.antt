@@ -31,3 +31,5 @@ pub mod Ready
 pub mod Totals
 pub mod OwnWidths
 pub mod Answered
+pub mod OwnLongest
+pub mod CodeTests

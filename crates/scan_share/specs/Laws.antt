@@ -7,7 +7,7 @@ use Rattle.part_model.specs.declared.Net.{Net}
 use Rattle.part_model.specs.Plans.{IsPart}
 use Rattle.chain_model.specs.Chains.{ChainState, Placed, powered, reset}
 use Rattle.chain_model.specs.Cycles.{Clock, after_cycles, after_calls, answers}
-use Rattle.grant_table.specs.Layouts.{LayoutShape}
+use Rattle.grant_table.specs.Layouts.{LayoutShape, group_of, longest_of}
 use Rattle.grant_table.specs.Faults.{is_one_of}
 use Rattle.grant_table.specs.Kept.{AllParts}
 use Rattle.grant_table.specs.Apart.{RisesFrom, ComesFrom}
@@ -16,6 +16,7 @@ use Rattle.scan_share.specs.PrivateChains.{entries_at}
 use Rattle.scan_share.specs.Scans.{IsWhole, IsParked, IsOpenFor, Captures, Updates, Starts, Abandons, codes_during, code_list, same_codes, scan_length, widths_during, group_bits}
 use Rattle.scan_share.specs.Walks.{load_walk, capture_walk, shift_out, read_walk, write_walk, start_walk}
 use Rattle.scan_share.specs.Written.{group_widths, written}
+use Rattle.scan_share.specs.Views.{own_width}
 
 -- a group of the layout's devices: its places rise and are in the chain, and a net that leads to one of them comes from one of them
 pub record IsGroup (layout : LayoutShape) (group : List ℕ) : Type 0 where
@@ -84,3 +85,7 @@ EachIsBoard (board ∷ boards) = (IsPart board.part × (length board.pins ≡ bo
 -- a chain at power-up is whole
 abbrev pub PoweredIsWhole : Type 0
 PoweredIsWhole = (layout : LayoutShape) (boards : List Placed) → EachIsBoard boards → layout.parts ≡ map (λ board. board.part) boards → IsWhole layout (powered boards layout.nets)
+
+-- whatever the codes, the registers of a grant's devices have no more bits than the longest register of each
+abbrev pub OwnWidthsFit : Type 0
+OwnWidthsFit = (layout : LayoutShape) (grant : ℕ) (codes : List ℕ) → AllParts layout.parts → own_width layout grant codes ≤ longest_of layout (group_of layout.grants grant)

@@ -1,5 +1,5 @@
 // The instruction codes of a chain's devices, as words.
-ghost use Rattle.std.specs.Prelude.{◌≡◌, ◌≢◌, ◌≤◌, ◌<◌, length, map, replicate, true, false};
+ghost use Rattle.std.specs.Prelude.{◌≡◌, ◌≢◌, ◌≤◌, ◌<◌, ◌^◌, nat_lt, length, map, replicate, true, false};
 ghost use Rattle.std.specs.List.{All};
 ghost use Rattle.scan_bits.specs.Words.{number_of};
 ghost use Rattle.grant_table.specs.Kept.{AllParts};
@@ -87,4 +87,37 @@ pub fn are_same(one: &Codes, other: &Codes) -> bool
     ensures differ { result ≡ false → one.now.items ≢ other.now.items }
 {
     one.as_slice() == other.as_slice()
+}
+
+// Whether a word is a code of a device type: it has no bits above its instruction register's.
+fn is_code(part: &Part, code: u64) -> bool
+    ensures { result ≡ nat_lt code (2 ^ part.now.ir_length) }
+{
+    code <= bypass_code(part)
+}
+
+// Whether these words are codes of a group's devices, one for each.
+fn are_group_codes(layout: &Layout, group: &[usize], codes: &[u64]) -> bool
+    requires within { All (λ place. place < length layout.now.parts) group.now }
+    requires counted { length codes.now ≡ length group.now }
+    ensures codes { result ≡ true → AreCodes (entries_at layout.now.parts group.now) codes.now }
+    ensures all { AreCodes (entries_at layout.now.parts group.now) codes.now → result ≡ true }
+{
+    for i in 0..group.len() {
+        if !is_code(layout.part(group[i]), codes[i]) {
+            return false;
+        }
+    }
+    true
+}
+
+/// Whether these words are instruction codes of a grant's devices: one for each, and none with more bits than its device's instruction
+/// register has.
+pub fn are_codes(layout: &Layout, grant: usize, codes: &[u64]) -> bool
+    requires { grant < length layout.now.grants }
+    ensures codes { result ≡ true → AreCodes (entries_at layout.now.parts (group_of layout.now.grants grant)) codes.now }
+    ensures all { AreCodes (entries_at layout.now.parts (group_of layout.now.grants grant)) codes.now → result ≡ true }
+{
+    let group = members(layout, grant);
+    group.len() == codes.len() && are_group_codes(layout, group, codes)
 }

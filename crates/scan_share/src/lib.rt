@@ -8,7 +8,7 @@ ghost use Rattle.grant_table.specs.Layouts.{group_of};
 ghost use Rattle.scan_share.specs.Scans.{update_cycles};
 ghost use Rattle.scan_share.specs.Costs.{two_grants, two_started, two_loaded, user_code, user_cycles};
 ghost use Rattle.scan_share.specs.Lengths.{ScansOwnAndOthers};
-ghost use Rattle.scan_share.specs.Laws.{LoadAndCapture, CaptureLoaded, WriteUpdates, StartRests, ResetAbandons, PoweredIsWhole};
+ghost use Rattle.scan_share.specs.Laws.{LoadAndCapture, CaptureLoaded, WriteUpdates, StartRests, ResetAbandons, PoweredIsWhole, OwnWidthsFit};
 
 mod code_bits;
 mod codes;
@@ -22,6 +22,8 @@ mod states;
 mod walks;
 mod write_bits;
 
+pub use codes::are_codes;
+pub use scan_length::own_width;
 pub use states::{Broken, Open, Parked};
 
 /// The private chain of no devices is the empty chain.
@@ -59,6 +61,11 @@ pub fn start_rests()
 /// A reset and one cycle end a scan without an update, and lead to Run-Test/Idle with the instructions of Test-Logic-Reset.
 pub fn reset_abandons()
     ensures { ResetAbandons }
+{}
+
+/// Whatever the codes, a scan has no more bits of a grant's own than the longest registers of its devices have together.
+pub fn own_widths_fit()
+    ensures { OwnWidthsFit }
 {}
 
 /// A chain at power-up is made of all device types and nets of its layout.

@@ -7,9 +7,9 @@ ghost use Rattle.scan_share.specs.PrivateChains.{entries_at};
 ghost use Rattle.scan_share.specs.Scans.{codes_of, scan_length};
 ghost use Rattle.scan_share.specs.Codes.{AreCodes};
 ghost use Rattle.scan_share.specs.Laws.{IsGroup};
-ghost use Rattle.scan_share.specs.Views.{codes_for};
+ghost use Rattle.scan_share.specs.Views.{codes_for, own_width};
 ghost use Rattle.grant_table.specs.Kept.{AllParts};
-ghost use Rattle.grant_table.specs.Layouts.{group_of};
+ghost use Rattle.grant_table.specs.Layouts.{group_of, longest_of};
 ghost use Rattle.scan_share.specs.Written.{group_widths};
 
 use crate::members::members;
@@ -51,4 +51,15 @@ pub fn scan_length(layout: &Layout, grant: usize, codes: &[u64]) -> usize
 {
     let group = members(layout, grant);
     own_length(layout, group, codes) + layout.devices() - group.len()
+}
+
+/// How many bits the registers of a grant's devices have under these instruction codes, from TDI on: those that a capture gives and an
+/// update takes.
+pub fn own_width(layout: &Layout, grant: usize, codes: &[u64]) -> usize
+    requires grant { grant < length layout.now.grants }
+    requires codes { AreCodes (entries_at layout.now.parts (group_of layout.now.grants grant)) codes.now }
+    ensures is { result ≡ own_width layout.now grant codes.now }
+    ensures bound { result ≤ longest_of layout.now (group_of layout.now.grants grant) }
+{
+    own_length(layout, members(layout, grant), codes)
 }
