@@ -56,7 +56,7 @@ balanced_goes text i s depth (token ∷ tokens) is = elim (chosen (is_sign text 
   ]
 ]
 
-none_of : (o : Option Field) → is_some o ≡ false → o ≡ None
+pub none_of : (o : Option Field) → is_some o ≡ false → o ≡ None
 none_of None is = refl
 none_of (Some field) is = absurd (cc is)
 

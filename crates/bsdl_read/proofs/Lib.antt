@@ -9,5 +9,6 @@ pub mod OpcodeParts
 pub mod PatternParts
 pub mod AccessParts
 pub mod Contenting
+pub mod Fronting
 pub mod Refusing
 pub mod Answering

@@ -76,7 +76,7 @@ attribute_front text i s word name rest tokens after out (Some field) is_field y
       new = w.0;
     }
 
-word_kind : (text : List ℕ) (token : Token) (word : List ℕ) → is_word text token word ≡ true → is_kind token.kind Word ≡ true
+pub word_kind : (text : List ℕ) (token : Token) (word : List ℕ) → is_word text token word ≡ true → is_kind token.kind Word ≡ true
 word_kind text token word is = (and_parts (is_kind token.kind Word) _ is).0
 
 -- an item, or the end

@@ -8,6 +8,7 @@ use Rattle.part_model.specs.Parts.{DeviceType}
 use Rattle.bsdl_read.specs.declared.structure.Seen.{Seen}
 use Rattle.bsdl_read.specs.Structure.{structure}
 use Rattle.bsdl_read.specs.Grammar.{IsFile}
+use Rattle.bsdl_read.specs.Fronts.{Front, IsFront, written_front}
 use Rattle.bsdl_read.specs.Refusals.{StopsAt, EndsEarly, LacksOne}
 use Rattle.bsdl_read.specs.Contents.{number_from}
 use Rattle.bsdl_read.specs.Opcodes.{opcodes}
@@ -20,11 +21,24 @@ use Rattle.bsdl_read.specs.Reading.{IsEntity, NoEntity}
 abbrev pub FilesHaveParts : Type 0
 FilesHaveParts = (text : List ℕ) (tokens : List Token) (seen : Seen) → (structure text tokens ≡ Ok seen) ↔ IsFile text tokens seen
 
--- a refusal of the structure is at the token with which no file begins any more, or at the text's end where the tokens end early, or at
--- `end` where a required attribute is missing; each by its cause
+-- a refusal of the structure is exactly at the first token with which the tokens are no front of a file, or at the text's end where they end
+-- early, or at `end` where a required attribute is missing; each by its cause
 abbrev pub StructureIsRefused : Type 0
-StructureIsRefused = (text : List ℕ) (tokens : List Token) (at cause : ℕ) → structure text tokens ≡ Err (record { at = at; cause = cause })
-    → StopsAt text tokens at cause ⊎ (EndsEarly text tokens at cause ⊎ LacksOne text tokens at cause)
+StructureIsRefused = (text : List ℕ) (tokens : List Token) (at cause : ℕ) → (structure text tokens ≡ Err (record { at = at; cause = cause }))
+    ↔ (StopsAt text tokens at cause ⊎ (EndsEarly text tokens at cause ⊎ LacksOne text tokens at cause))
+
+-- these tokens are a front of a file
+pub record AreFront (text : List ℕ) (tokens : List Token) : Type 0 where
+  pub front : Front
+  pub is_front : IsFront text front
+  pub are : tokens ≡ written_front front
+
+-- what a file begins with is a front, and so is what a front begins with
+abbrev pub FilesHaveFronts : Type 0
+FilesHaveFronts = (text : List ℕ) (tokens more : List Token) (seen : Seen) → IsFile text (tokens ++ more) seen → AreFront text tokens
+
+abbrev pub FrontsHaveFronts : Type 0
+FrontsHaveFronts = (text : List ℕ) (tokens more : List Token) → AreFront text (tokens ++ more) → AreFront text tokens
 
 -- a text says an entity
 pub record SaysOne (text : List ℕ) : Type 0 where

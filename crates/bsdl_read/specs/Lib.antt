@@ -1,6 +1,7 @@
 pub mod Words
 pub mod Structure
 pub mod Grammar
+pub mod Fronts
 pub mod Refusals
 pub mod Contents
 pub mod Opcodes

@@ -1,5 +1,5 @@
 -- The structure of a BSDL file: which tokens may follow which, and the first that may not.
-use Rattle.std.specs.Prelude.{ℕ, suc, ◌+◌, ◌-◌, Bool, true, false, not, ◌&&◌, ◌==◌, List, [], ◌∷◌, length, ◌≤◌, if◌then◌else◌, Result, Ok, Err, codes}
+use Rattle.std.specs.Prelude.{◌≡◌, ℕ, suc, ◌+◌, ◌-◌, Bool, true, false, not, ◌&&◌, ◌==◌, List, [], ◌∷◌, length, ◌≤◌, if◌then◌else◌, Result, Ok, Err, codes}
 use Rattle.std.specs.declared.option.Option.{Option}
 use Rattle.std.specs.declared.option.Option.TheVariants.{Some, None}
 use Rattle.std.specs.Option.{is_none, is_some}
@@ -132,3 +132,20 @@ structure text tokens = and_then (gone text 0 nothing tokens) (finished text)
 abbrev pub Shallow : Stage → ℕ → Type 0
 Shallow (stage.Passed depth) most = depth ≤ most
 Shallow _ most = Unit {0}
+
+-- within an item that is read
+abbrev pub is_read : Stage → Type 0
+is_read (stage.Of field) = Unit {0}
+is_read (stage.Owner field) = Unit {0}
+is_read (stage.Colon field) = Unit {0}
+is_read (stage.Kind field) = Unit {0}
+is_read (stage.Has field) = Unit {0}
+is_read (stage.First field) = Unit {0}
+is_read (stage.Joined field) = Unit {0}
+is_read (stage.Part field) = Unit {0}
+is_read _ = ⊥
+
+-- what the code answers: the state after a step, or the refusal
+abbrev pub Steps : Seen → Result (Unit {0}) Fault → Result Seen Fault → Type 0
+Steps after (Ok u) read = read ≡ Ok after
+Steps after (Err fault) read = read ≡ Err fault

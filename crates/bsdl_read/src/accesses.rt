@@ -113,7 +113,8 @@ impl AccessReading {
         ensures { c.Steps (a.view self.new) result (Ok (a.with_name (a.view self.old))) }
     {
         self.stage = AccessStage::Instruction;
-        let name = mem::replace(&mut self.name, String::new(alloc));
+        let name = String::from_str(alloc, &self.name)?;
+        self.name.clear();
         self.instructions.push(Text::from_string(name))?;
         Ok(())
     }
@@ -124,7 +125,8 @@ impl AccessReading {
     {
         self.name(alloc)?;
         self.stage = AccessStage::Closed;
-        let register = mem::replace(&mut self.register, String::new(alloc));
+        let register = String::from_str(alloc, &self.register)?;
+        self.register.clear();
         let instructions = mem::replace(&mut self.instructions, Vec::new(alloc));
         self.done.push(Access {
             register: Text::from_string(register),

@@ -7,10 +7,14 @@ pub fn files_have_parts()
     ensures { l.FilesHaveParts }
 {}
 
-/// Where the tokens of a text have no structure, a token is refused with which no file begins any more, or the tokens end early, or a
-/// required attribute is missing. Cause 7 is a name of the seven for the second time, 8 stands in an item that is read, and 5 elsewhere.
+/// The tokens of a text have no structure exactly where the first token is refused with which they are no front of a file any more, or
+/// where they are a front that ends early, or a whole file but for a required attribute. A front is `entity NAME is`, whole items, and a
+/// part of one more or of `end NAME ;`. Cause 7 is one of the seven names met before, right behind `attribute`; 8 comes exactly inside an
+/// item that is read; 5 elsewhere and at an early end; 6 is the missing attribute. What a file or a front begins with is a front.
 pub fn structure_is_refused()
-    ensures { l.StructureIsRefused }
+    ensures refused { l.StructureIsRefused }
+    ensures files { l.FilesHaveFronts }
+    ensures fronts { l.FrontsHaveFronts }
 {}
 
 /// Every text either says an entity or is refused, and never both.

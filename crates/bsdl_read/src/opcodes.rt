@@ -67,8 +67,9 @@ impl OpcodeReading {
         ensures { c.Steps (o.view self.new) result (Ok (o.with_pattern (o.view self.old))) }
     {
         self.stage = OpcodeStage::Pattern;
-        let mut digits = mem::replace(&mut self.digits, Vec::new(alloc));
+        let mut digits = Vec::from_slice(alloc, &self.digits)?;
         digits.reverse();
+        self.digits.clear();
         self.patterns.push(Pattern {
             digits: Items::from_vec(digits),
         })?;
@@ -81,7 +82,8 @@ impl OpcodeReading {
     {
         self.pattern(alloc)?;
         self.stage = OpcodeStage::Closed;
-        let name = mem::replace(&mut self.name, String::new(alloc));
+        let name = String::from_str(alloc, &self.name)?;
+        self.name.clear();
         let patterns = mem::replace(&mut self.patterns, Vec::new(alloc));
         self.done.push(Opcode {
             name: Text::from_string(name),

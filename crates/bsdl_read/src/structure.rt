@@ -1,8 +1,10 @@
 // The structure of a BSDL file: which token may follow which.
-ghost use Rattle.std.specs.Prelude.{◌≡◌, ◌<◌, ◌≤◌, ◌+◌, ◌^◌, length, IfOk};
+ghost use Rattle.std.specs.Prelude.{◌≡◌, ◌<◌, ◌≤◌, ◌+◌, ◌^◌, length, IfOk, OnOk};
+ghost use Rattle.bsdl_lex.specs.declared.TokenKind.TheVariants.{Word};
 ghost use Rattle.bsdl_lex.specs.Tokens.{SpansRise};
 ghost use Rattle.bsdl_read.specs.Words as w;
 ghost use Rattle.bsdl_read.specs.Structure as s;
+ghost use Rattle.bsdl_read.specs.declared.structure.Stage.TheVariants.{Is, Joined};
 
 use crate::words::{field_of, is_kind, is_sign, is_word, spelled, value_kind};
 use bsdl_lex::{Token, TokenKind};
@@ -81,122 +83,223 @@ impl Values {
         }
     }
 
-    fn with(self, field: Field, value: Value) -> Values
-        ensures { result ≡ s.with_value self field value }
+    fn set(&mut self, field: Field, value: Value)
+        ensures { self.new ≡ s.with_value self.old field value }
     {
         match field {
-            Field::InstructionLength => Values {
-                ir_length: Some(value),
-                ..self
-            },
-            Field::InstructionOpcode => Values {
-                opcodes: Some(value),
-                ..self
-            },
-            Field::InstructionCapture => Values {
-                capture: Some(value),
-                ..self
-            },
-            Field::IdcodeRegister => Values {
-                idcode: Some(value),
-                ..self
-            },
-            Field::UsercodeRegister => Values {
-                usercode: Some(value),
-                ..self
-            },
-            Field::RegisterAccess => Values {
-                access: Some(value),
-                ..self
-            },
-            Field::BoundaryLength => Values {
-                boundary: Some(value),
-                ..self
-            },
+            Field::InstructionLength => self.ir_length = Some(value),
+            Field::InstructionOpcode => self.opcodes = Some(value),
+            Field::InstructionCapture => self.capture = Some(value),
+            Field::IdcodeRegister => self.idcode = Some(value),
+            Field::UsercodeRegister => self.usercode = Some(value),
+            Field::RegisterAccess => self.access = Some(value),
+            Field::BoundaryLength => self.boundary = Some(value),
         }
     }
 }
 
-fn go(allowed: bool, cause: u8, token: Token, seen: Seen) -> Result<Seen, Fault>
-    ensures { result ≡ s.go allowed cause token seen }
-{
-    if allowed {
-        Ok(seen)
-    } else {
-        Err(Fault {
-            at: token.start,
-            cause,
-        })
-    }
-}
-
 impl Seen {
-    fn to(self, stage: Stage) -> Seen
-        ensures { result ≡ s.to self stage }
+    // A token that is allowed leads to a stage, and any other is the refusal.
+    fn go(&mut self, allowed: bool, cause: u8, token: Token, stage: Stage) -> Result<(), Fault>
+        ensures is { s.Steps self.new result (s.go allowed cause token (s.to self.old stage)) }
+        ensures stage { OnOk result (self.new.stage ≡ stage) }
+        ensures name { self.new.name ≡ self.old.name }
     {
-        Seen { stage, ..self }
+        if !allowed {
+            return Err(Fault {
+                at: token.start,
+                cause,
+            });
+        }
+        self.stage = stage;
+        Ok(())
     }
-}
 
-fn passed(text: &[u8], token: Token, seen: Seen, depth: usize) -> Result<Seen, Fault>
-    requires lies { w.Lies text.now token }
-    requires room { depth + 1 < 2 ^ 64 }
-    ensures is { result ≡ s.passed text.now token seen depth }
-    ensures name { IfOk result (λ after. after.name ≡ seen.name) }
-{
-    if is_sign(text, token, b'(') {
-        return Ok(seen.to(Stage::Passed(depth + 1)));
+    // A word has to stand there.
+    fn word(
+        &mut self,
+        text: &[u8],
+        token: Token,
+        word: &[u8],
+        cause: u8,
+        stage: Stage,
+    ) -> Result<(), Fault>
+        requires { w.Lies text.now token }
+        ensures is { s.Steps self.new result (s.go (w.is_word text.now token word.now) cause token (s.to self.old stage)) }
+        ensures stage { OnOk result (self.new.stage ≡ stage) }
+        ensures name { self.new.name ≡ self.old.name }
+    {
+        self.go(is_word(text, token, word), cause, token, stage)
     }
-    if is_sign(text, token, b')') {
-        return go(
-            depth != 0,
+
+    fn passed(&mut self, text: &[u8], token: Token, depth: usize) -> Result<(), Fault>
+        requires lies { w.Lies text.now token }
+        requires room { depth + 1 < 2 ^ 64 }
+        ensures is { s.Steps self.new result (s.passed text.now token self.old depth) }
+        ensures room { OnOk result (s.Shallow self.new.stage (depth + 1)) }
+        ensures name { self.new.name ≡ self.old.name }
+    {
+        if is_sign(text, token, b'(') {
+            return self.go(true, 5, token, Stage::Passed(depth + 1));
+        }
+        if is_sign(text, token, b')') {
+            return self.go(depth != 0, 5, token, Stage::Passed(depth.saturating_sub(1)));
+        }
+        if is_sign(text, token, b';') && depth == 0 {
+            return self.go(true, 5, token, Stage::Item);
+        }
+        self.go(true, 5, token, Stage::Passed(depth))
+    }
+
+    fn item(&mut self, text: &[u8], token: Token) -> Result<(), Fault>
+        requires { w.Lies text.now token }
+        ensures is { s.Steps self.new result (s.item text.now token self.old) }
+        ensures room { OnOk result (s.Shallow self.new.stage 0) }
+        ensures name { self.new.name ≡ self.old.name }
+    {
+        if is_word(text, token, "END".as_bytes()) {
+            self.stage = Stage::EndName;
+            self.end = token.start;
+            return Ok(());
+        }
+        if is_word(text, token, "ATTRIBUTE".as_bytes()) {
+            return self.go(true, 5, token, Stage::Attribute);
+        }
+        self.go(
+            is_kind(token.kind, TokenKind::Word),
             5,
             token,
-            seen.to(Stage::Passed(depth.saturating_sub(1))),
-        );
+            Stage::Passed(0),
+        )
     }
-    if is_sign(text, token, b';') && depth == 0 {
-        return Ok(seen.to(Stage::Item));
-    }
-    Ok(seen.to(Stage::Passed(depth)))
-}
 
-fn item(text: &[u8], token: Token, seen: Seen) -> Result<Seen, Fault>
-    requires { w.Lies text.now token }
-    ensures is { result ≡ s.item text.now token seen }
-    ensures name { IfOk result (λ after. after.name ≡ seen.name) }
-{
-    if is_word(text, token, "END".as_bytes()) {
-        return Ok(Seen {
-            stage: Stage::EndName,
-            end: token.start,
-            ..seen
-        });
+    fn attribute(&mut self, text: &[u8], token: Token, field: Option<Field>) -> Result<(), Fault>
+        requires { w.Lies text.now token }
+        ensures is { s.Steps self.new result (s.attribute text.now token self.old field) }
+        ensures room { OnOk result (s.Shallow self.new.stage 1) }
+        ensures name { self.new.name ≡ self.old.name }
+    {
+        match field {
+            Some(field) => {
+                let first = self.values.get(field).is_none();
+                self.go(first, 7, token, Stage::Of(field))
+            }
+            None => self.passed(text, token, 0),
+        }
     }
-    if is_word(text, token, "ATTRIBUTE".as_bytes()) {
-        return Ok(seen.to(Stage::Attribute));
-    }
-    go(
-        is_kind(token.kind, TokenKind::Word),
-        5,
-        token,
-        seen.to(Stage::Passed(0)),
-    )
-}
 
-fn attribute(text: &[u8], token: Token, seen: Seen, field: Option<Field>) -> Result<Seen, Fault>
-    requires { w.Lies text.now token }
-    ensures is { result ≡ s.attribute text.now token seen field }
-    ensures name { IfOk result (λ after. after.name ≡ seen.name) }
-{
-    match field {
-        Some(field) => go(
-            seen.values.get(field).is_none(),
-            7,
-            token,
-            seen.to(Stage::Of(field)),
-        ),
-        None => passed(text, token, seen, 0),
+    fn part(&mut self, token: Token, field: Field, new: Value) -> Result<(), Fault>
+        ensures is { s.Steps self.new result (s.part token self.old field new) }
+        ensures stage { OnOk result (self.new.stage ≡ Joined field) }
+        ensures name { self.new.name ≡ self.old.name }
+    {
+        if !is_kind(token.kind, value_kind(field)) {
+            return Err(Fault {
+                at: token.start,
+                cause: 8,
+            });
+        }
+        self.values.set(field, new);
+        self.stage = Stage::Joined(field);
+        Ok(())
+    }
+
+    fn joined(&mut self, text: &[u8], token: Token, field: Field) -> Result<(), Fault>
+        requires { w.Lies text.now token }
+        ensures is { s.Steps self.new result (s.joined text.now token self.old field) }
+        ensures room { OnOk result (s.Shallow self.new.stage 0) }
+        ensures name { self.new.name ≡ self.old.name }
+    {
+        if is_sign(text, token, b'&') && is_kind(value_kind(field), TokenKind::Text) {
+            return self.go(true, 8, token, Stage::Part(field));
+        }
+        self.go(is_sign(text, token, b';'), 8, token, Stage::Item)
+    }
+
+    // The name of the entity.
+    fn named(&mut self, token: Token) -> Result<(), Fault>
+        ensures is { s.Steps self.new result (s.go (w.is_kind token.kind Word) 5 token (record self.old { stage = Is; name = token })) }
+        ensures stage { OnOk result (self.new.stage ≡ Is) }
+        ensures name { OnOk result (self.new.name ≡ token) }
+    {
+        if !is_kind(token.kind, TokenKind::Word) {
+            return Err(Fault {
+                at: token.start,
+                cause: 5,
+            });
+        }
+        self.stage = Stage::Is;
+        self.name = token;
+        Ok(())
+    }
+
+    // What one more token leads to.
+    fn next(&mut self, text: &[u8], token: Token, index: usize) -> Result<(), Fault>
+        requires lies { w.Lies text.now token }
+        requires name { w.Lies text.now self.old.name }
+        requires room { s.Shallow self.old.stage index }
+        requires count { index + 1 < 2 ^ 64 }
+        ensures is { s.Steps self.new result (s.next text.now self.old token index) }
+        ensures name { OnOk result (w.Lies text.now self.new.name) }
+        ensures room { OnOk result (s.Shallow self.new.stage (index + 1)) }
+    {
+        match self.stage {
+            Stage::Passed(depth) => self.passed(text, token, depth),
+            Stage::Item => self.item(text, token),
+            Stage::Attribute => self.attribute(text, token, field_of(text, token)),
+            Stage::Entity => self.word(text, token, b"ENTITY", 5, Stage::Name),
+            Stage::Name => self.named(token),
+            Stage::Is => self.word(text, token, b"IS", 5, Stage::Item),
+            Stage::EndName => self.word(text, token, spelled(text, self.name), 5, Stage::EndSign),
+            Stage::EndSign => self.go(is_sign(text, token, b';'), 5, token, Stage::Done),
+            Stage::Done => self.go(false, 5, token, Stage::Done),
+            _ => self.next_of_value(text, token, index),
+        }
+    }
+
+    // What one more token leads to in an item that is read.
+    fn next_of_value(&mut self, text: &[u8], token: Token, index: usize) -> Result<(), Fault>
+        requires stage { s.is_read self.old.stage }
+        requires lies { w.Lies text.now token }
+        requires name { w.Lies text.now self.old.name }
+        requires count { index + 1 < 2 ^ 64 }
+        ensures is { s.Steps self.new result (s.next text.now self.old token index) }
+        ensures room { OnOk result (s.Shallow self.new.stage 0) }
+        ensures name { self.new.name ≡ self.old.name }
+    {
+        match self.stage {
+            Stage::Of(field) => self.word(text, token, b"OF", 8, Stage::Owner(field)),
+            Stage::Owner(field) => self.word(
+                text,
+                token,
+                spelled(text, self.name),
+                8,
+                Stage::Colon(field),
+            ),
+            Stage::Colon(field) => self.go(
+                is_sign(text, token, b':'),
+                8,
+                token,
+                Stage::Kind(field),
+            ),
+            Stage::Kind(field) => self.word(text, token, b"ENTITY", 8, Stage::Has(field)),
+            Stage::Has(field) => self.word(text, token, b"IS", 8, Stage::First(field)),
+            Stage::First(field) => self.part(
+                token,
+                field,
+                Value {
+                    at: token.start,
+                    first: index,
+                    behind: index + 1,
+                },
+            ),
+            Stage::Joined(field) => self.joined(text, token, field),
+            Stage::Part(field) => {
+                let new = extended(self.values.get(field), index + 1);
+                self.part(token, field, new)
+            }
+            _ => unreachable!(),
+        }
     }
 }
 
@@ -210,126 +313,6 @@ fn extended(old: Option<Value>, behind: usize) -> Value
             behind,
         },
         Some(old) => Value { behind, ..old },
-    }
-}
-
-fn part(token: Token, seen: Seen, field: Field, new: Value) -> Result<Seen, Fault>
-    ensures is { result ≡ s.part token seen field new }
-    ensures name { IfOk result (λ after. after.name ≡ seen.name) }
-{
-    let values = seen.values.with(field, new);
-    go(
-        is_kind(token.kind, value_kind(field)),
-        8,
-        token,
-        Seen {
-            stage: Stage::Joined(field),
-            values,
-            ..seen
-        },
-    )
-}
-
-fn joined(text: &[u8], token: Token, seen: Seen, field: Field) -> Result<Seen, Fault>
-    requires { w.Lies text.now token }
-    ensures is { result ≡ s.joined text.now token seen field }
-    ensures name { IfOk result (λ after. after.name ≡ seen.name) }
-{
-    if is_sign(text, token, b'&') && is_kind(value_kind(field), TokenKind::Text) {
-        return Ok(seen.to(Stage::Part(field)));
-    }
-    go(is_sign(text, token, b';'), 8, token, seen.to(Stage::Item))
-}
-
-// What one more token leads to.
-fn next(text: &[u8], seen: Seen, token: Token, index: usize) -> Result<Seen, Fault>
-    requires lies { w.Lies text.now token }
-    requires name { w.Lies text.now seen.name }
-    requires room { s.Shallow seen.stage index }
-    requires count { index + 1 < 2 ^ 64 }
-    ensures is { result ≡ s.next text.now seen token index }
-    ensures name { IfOk result (λ after. w.Lies text.now after.name) }
-    ensures room { IfOk result (λ after. s.Shallow after.stage (index + 1)) }
-{
-    match seen.stage {
-        Stage::Entity => go(
-            is_word(text, token, "ENTITY".as_bytes()),
-            5,
-            token,
-            seen.to(Stage::Name),
-        ),
-        Stage::Name => {
-            let named = Seen {
-                stage: Stage::Is,
-                name: token,
-                ..seen
-            };
-            go(is_kind(token.kind, TokenKind::Word), 5, token, named)
-        }
-        Stage::Is => go(
-            is_word(text, token, "IS".as_bytes()),
-            5,
-            token,
-            seen.to(Stage::Item),
-        ),
-        Stage::Item => item(text, token, seen),
-        Stage::Attribute => attribute(text, token, seen, field_of(text, token)),
-        Stage::Passed(depth) => passed(text, token, seen, depth),
-        Stage::Of(field) => go(
-            is_word(text, token, "OF".as_bytes()),
-            8,
-            token,
-            seen.to(Stage::Owner(field)),
-        ),
-        Stage::Owner(field) => go(
-            is_word(text, token, spelled(text, seen.name)),
-            8,
-            token,
-            seen.to(Stage::Colon(field)),
-        ),
-        Stage::Colon(field) => go(
-            is_sign(text, token, b':'),
-            8,
-            token,
-            seen.to(Stage::Kind(field)),
-        ),
-        Stage::Kind(field) => go(
-            is_word(text, token, "ENTITY".as_bytes()),
-            8,
-            token,
-            seen.to(Stage::Has(field)),
-        ),
-        Stage::Has(field) => go(
-            is_word(text, token, "IS".as_bytes()),
-            8,
-            token,
-            seen.to(Stage::First(field)),
-        ),
-        Stage::First(field) => part(
-            token,
-            seen,
-            field,
-            Value {
-                at: token.start,
-                first: index,
-                behind: index + 1,
-            },
-        ),
-        Stage::Joined(field) => joined(text, token, seen, field),
-        Stage::Part(field) => part(
-            token,
-            seen,
-            field,
-            extended(seen.values.get(field), index + 1),
-        ),
-        Stage::EndName => go(
-            is_word(text, token, spelled(text, seen.name)),
-            5,
-            token,
-            seen.to(Stage::EndSign),
-        ),
-        Stage::EndSign => go(is_sign(text, token, b';'), 5, token, seen.to(Stage::Done)),
-        Stage::Done => go(false, 5, token, seen),
     }
 }
 
@@ -389,8 +372,8 @@ pub fn structure(text: &[u8], tokens: &[Token]) -> Result<Seen, Fault>
     };
     let mut index = 0;
     while index < tokens.len() {
-        match next(text, seen, tokens[index], index) {
-            Ok(after) => seen = after,
+        match seen.next(text, tokens[index], index) {
+            Ok(()) => {}
             Err(fault) => return Err(fault),
         }
         index += 1;

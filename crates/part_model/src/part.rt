@@ -9,10 +9,8 @@ use crate::names::{same_name, spelled};
 use crate::plan::{PartPlan, PartRefusal};
 use crate::refusals::{boundary_refusal, code_refusal, named_registers};
 use crate::registers::{BOUNDARY, BYPASS, DataRegister, FIRST_NAMED, IDCODE, USERCODE};
-use crate::reset::{capture_code, idcode, identification_refusal, reset_code, usercode};
-use crate::selections::{
-    Selection, copy_registers, copy_selections, instruction, selected, selections,
-};
+use crate::reset::{capture_code, idcode, identified, reset_code, usercode};
+use crate::selections::{Selection, copy_registers, copy_selections, instruction, selected};
 use base_types::Items;
 use std::alloc::{AllocError, Global};
 use std::marker::Model;
@@ -62,18 +60,20 @@ impl Part {
         if let Some(refusal) = boundary_refusal(&plan) {
             return Err(refusal.into());
         }
-        let opcodes = selections(alloc, &plan, &named)?;
+        let ir_len = plan.ir_len;
+        let boundary = plan.boundary;
+        let capture_code = capture_code(&plan);
         let reset_code = reset_code(&plan);
-        if let Some(refusal) = identification_refusal(&plan, &opcodes, reset_code) {
-            return Err(refusal.into());
-        }
+        let idcode = idcode(&plan);
+        let usercode = usercode(&plan);
+        let opcodes = identified(alloc, plan, &named, reset_code)?;
         Ok(Part {
-            ir_len: plan.ir_len,
-            capture_code: capture_code(&plan),
+            ir_len,
+            capture_code,
             reset_code,
-            idcode: idcode(&plan),
-            usercode: usercode(&plan),
-            boundary: plan.boundary,
+            idcode,
+            usercode,
+            boundary,
             opcodes: Items::from_vec(opcodes),
             named: Items::from_vec(named),
         })

@@ -1,18 +1,21 @@
 // The reset code and the identification of a plan that has codes of the right lengths.
-ghost use Rattle.std.specs.Prelude.{◌≡◌, ◌≤◌, ◌<◌, ◌^◌, true, false, length, map, None};
+ghost use Rattle.std.specs.Prelude.{◌≡◌, ◌≤◌, ◌<◌, ◌+◌, ◌-◌, ◌^◌, true, false, length, map, IfOk, IfErr, None};
 ghost use Rattle.std.specs.List.{list_any};
 ghost use Rattle.std.specs.Option.{option_map};
 ghost use Rattle.scan_bits.specs.Words.{bits_of};
 ghost use Rattle.part_model.specs.Parts as parts;
 ghost use Rattle.part_model.specs.Plans as plans;
+ghost use Rattle.part_model.specs.declared.Field.TheVariants.{IdcodeRegister};
+ghost use Rattle.part_model.specs.declared.plan.PartRefusal.TheVariants.{Refused};
 
 use crate::Field;
 use crate::codes::{code_of, is_odd, ones, word_of};
 use crate::names::{same_name, spelled};
-use crate::plan::{Opcode, PartPlan, Pattern, PlanRefusal};
-use crate::refusals::{has_opcode, refuse, refuse_if};
-use crate::registers::IDCODE;
-use crate::selections::{Selection, selected};
+use crate::plan::{Opcode, PartPlan, PartRefusal, Pattern};
+use crate::refusals::has_opcode;
+use crate::registers::{DataRegister, IDCODE};
+use crate::selections::{Selection, selected, selections};
+use std::alloc::Global;
 
 // The code of the first pattern.
 fn first_code(count: u32, patterns: &[Pattern]) -> u64
@@ -94,22 +97,50 @@ fn is_idcode(register: u32) -> bool
     register == IDCODE
 }
 
-// Cause 8, for the instructions and the reset code of the plan.
-pub fn identification_refusal(
-    plan: &PartPlan,
-    opcodes: &[Selection],
+// The instructions of a plan, or cause 8, for the named registers and the reset code of the plan.
+pub fn identified(
+    alloc: Global,
+    plan: PartPlan,
+    named: &[DataRegister],
     reset_code: u64,
-) -> Option<PlanRefusal>
-    requires opcodes { parts.instructions_of opcodes.now ≡ map (plans.opcode_of plan.now.access) plan.now.opcodes }
-    requires reset { bits_of plan.now.ir_len reset_code ≡ plans.reset_of plan.now.idcode plan.now.ir_len plan.now.opcodes }
-    ensures { result ≡ plans.identification_refusal plan.now.idcode plan.now }
+) -> Result<Vec<Selection>, PartRefusal>
+    requires few { length named.now < 2 ^ 32 - 4 }
+    requires named { parts.named_of named.now ≡ plans.named_registers plan.access }
+    requires reset { bits_of plan.ir_len reset_code ≡ plans.reset_of plan.idcode plan.ir_len plan.opcodes }
+    ensures accepted { IfOk result (λ found. plans.identification_refusal plan.idcode plan ≡ None) }
+    ensures are { IfOk result (λ found. parts.instructions_of found.items ≡ map (plans.opcode_of plan.access) plan.opcodes) }
+    ensures within { IfOk result (λ found. parts.all_below (4 + length named.now) found.items ≡ true) }
+    ensures refused { IfErr result (λ refusal. plans.RefusesAs refusal (plans.identification_refusal plan.idcode plan)) }
 {
-    let Some(pattern) = &plan.idcode else {
-        return None;
+    let listed = has_opcode(plan.opcodes.as_slice(), b"IDCODE");
+    let PartPlan {
+        ir_len,
+        opcodes,
+        capture: _,
+        idcode,
+        usercode: _,
+        access,
+        boundary: _,
+    } = plan;
+    let found = selections(alloc, opcodes.into_vec(), access.as_slice(), named)?;
+    let Some(pattern) = idcode else {
+        return Ok(found);
     };
-    if !has_opcode(plan.opcodes.as_slice(), b"IDCODE") || !is_odd(pattern.digits()) {
-        return refuse(8, Field::IdcodeRegister);
+    if !listed || !is_odd(pattern.digits()) {
+        return Err(unidentified());
     }
-    let register = selected(opcodes, plan.ir_len, reset_code);
-    refuse_if(!is_idcode(register), 8, Field::IdcodeRegister)
+    let register = selected(&found, ir_len, reset_code);
+    if !is_idcode(register) {
+        return Err(unidentified());
+    }
+    Ok(found)
+}
+
+fn unidentified() -> PartRefusal
+    ensures { result ≡ Refused 8 IdcodeRegister }
+{
+    PartRefusal::Refused {
+        cause: 8,
+        field: Field::IdcodeRegister,
+    }
 }

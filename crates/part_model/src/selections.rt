@@ -8,7 +8,7 @@ ghost use Rattle.part_model.specs.Plans as plans;
 
 use crate::codes::{all_ones, matches};
 use crate::names::{copy_name, same_name, spelled};
-use crate::plan::{Access, Opcode, PartPlan, Pattern};
+use crate::plan::{Access, Opcode, Pattern};
 use crate::registers::{BYPASS, DataRegister, register_for};
 use base_types::{Items, Text};
 use std::alloc::{AllocError, Global};
@@ -40,39 +40,37 @@ fn copy_patterns(alloc: Global, patterns: &[Pattern]) -> Result<Items<Pattern>, 
     Ok(Items::from_vec(copied))
 }
 
-// The instruction of an opcode.
-fn selection_of(
-    alloc: Global,
-    accesses: &[Access],
-    named: &[DataRegister],
-    opcode: &Opcode,
-) -> Result<Selection, AllocError>
+// The instruction of an opcode, with its name and its patterns.
+fn selection_of(accesses: &[Access], named: &[DataRegister], opcode: Opcode) -> Selection
     requires few { length named.now < 2 ^ 32 - 4 }
     requires named { parts.named_of named.now ≡ plans.named_registers accesses.now }
-    ensures is { IfOk result (λ found. parts.instruction_of found ≡ plans.opcode_of accesses.now opcode.now) }
-    ensures within { IfOk result (λ found. found.register < 4 + length named.now) }
+    ensures is { parts.instruction_of result ≡ plans.opcode_of accesses.now opcode }
+    ensures within { result.register < 4 + length named.now }
 {
-    Ok(Selection {
-        name: copy_name(alloc, &opcode.name)?,
-        patterns: copy_patterns(alloc, opcode.patterns.as_slice())?,
-        register: register_for(accesses, named, spelled(&opcode.name)),
-    })
+    let register = register_for(accesses, named, spelled(&opcode.name));
+    let Opcode { name, patterns } = opcode;
+    Selection {
+        name,
+        patterns,
+        register,
+    }
 }
 
 // The instructions of all opcodes, in order.
 pub fn selections(
     alloc: Global,
-    plan: &PartPlan,
+    opcodes: Vec<Opcode>,
+    accesses: &[Access],
     named: &[DataRegister],
 ) -> Result<Vec<Selection>, AllocError>
     requires few { length named.now < 2 ^ 32 - 4 }
-    requires named { parts.named_of named.now ≡ plans.named_registers plan.now.access }
-    ensures are { IfOk result (λ found. parts.instructions_of found.items ≡ map (plans.opcode_of plan.now.access) plan.now.opcodes) }
+    requires named { parts.named_of named.now ≡ plans.named_registers accesses.now }
+    ensures are { IfOk result (λ found. parts.instructions_of found.items ≡ map (plans.opcode_of accesses.now) opcodes.items) }
     ensures within { IfOk result (λ found. parts.all_below (4 + length named.now) found.items ≡ true) }
 {
-    let mut found = Vec::new(alloc);
-    for opcode in plan.opcodes.as_slice() {
-        found.push(selection_of(alloc, plan.access.as_slice(), named, opcode)?)?;
+    let mut found = Vec::with_capacity(alloc, opcodes.len())?;
+    for opcode in opcodes {
+        found.push(selection_of(accesses, named, opcode))?;
     }
     Ok(found)
 }
