@@ -9,12 +9,13 @@ use Rattle.part_model.specs.Parts.{DeviceType}
 use Rattle.part_model.specs.Plans.{IsPart}
 use Rattle.scan_share.specs.PrivateChains.{entries_at}
 use Rattle.scan_share.specs.Scans.{codes_of}
+use Rattle.scan_share.specs.Codes.{AreCodes}
 use Rattle.virtual_tap.specs.Views.{EachLength}
-use Rattle.virtual_tap.specs.Instructions.{InstructionState, GroupInstructions, AreCodes, ArePlans, at_power_up, captured, cleared, shifted_through, parts_of}
+use Rattle.virtual_tap.specs.Instructions.{InstructionState, GroupInstructions, SpellCodes, ArePlans, at_power_up, captured, cleared, shifted_through, parts_of}
 
 -- ---- codes
 
-pub coded_length : (parts : List DeviceType) (words : List ℕ) (codes : List (List Bool)) → AreCodes parts words codes → length words ≡ length parts
+pub coded_length : (parts : List DeviceType) (words : List ℕ) (codes : List (List Bool)) → SpellCodes parts words codes → length words ≡ length parts
 coded_length [] [] [] coded = refl
 coded_length (part ∷ parts) (word ∷ words) (code ∷ codes) coded = ap suc (coded_length parts words codes coded.2)
 coded_length [] [] (code ∷ codes) coded = absurd coded
@@ -22,7 +23,7 @@ coded_length [] (word ∷ words) codes coded = absurd coded
 coded_length (part ∷ parts) [] codes coded = absurd coded
 coded_length (part ∷ parts) (word ∷ words) [] coded = absurd coded
 
-pub codes_are : (parts : List DeviceType) (words : List ℕ) (codes : List (List Bool)) → AreCodes parts words codes → codes_of parts words ≡ codes
+pub codes_are : (parts : List DeviceType) (words : List ℕ) (codes : List (List Bool)) → SpellCodes parts words codes → codes_of parts words ≡ codes
 codes_are [] [] [] coded = refl
 codes_are (part ∷ parts) (word ∷ words) (code ∷ codes) coded = λ i. coded.0 i ∷ codes_are parts words codes coded.2 i
 codes_are [] [] (code ∷ codes) coded = absurd coded
@@ -30,7 +31,16 @@ codes_are [] (word ∷ words) codes coded = absurd coded
 codes_are (part ∷ parts) [] codes coded = absurd coded
 codes_are (part ∷ parts) (word ∷ words) [] coded = absurd coded
 
-pub each_coded : (parts : List DeviceType) (words : List ℕ) (codes : List (List Bool)) → AreCodes parts words codes → EachLength parts codes
+-- each word is below 2 to the instruction length
+pub words_fit : (parts : List DeviceType) (words : List ℕ) (codes : List (List Bool)) → SpellCodes parts words codes → AreCodes parts words
+words_fit [] [] [] coded = tt
+words_fit (part ∷ parts) (word ∷ words) (code ∷ codes) coded = (coded.1, words_fit parts words codes coded.2)
+words_fit [] [] (code ∷ codes) coded = absurd coded
+words_fit [] (word ∷ words) codes coded = absurd coded
+words_fit (part ∷ parts) [] codes coded = absurd coded
+words_fit (part ∷ parts) (word ∷ words) [] coded = absurd coded
+
+pub each_coded : (parts : List DeviceType) (words : List ℕ) (codes : List (List Bool)) → SpellCodes parts words codes → EachLength parts codes
 each_coded [] [] [] coded = tt
 each_coded (part ∷ parts) (word ∷ words) (code ∷ codes) coded = (ap length (sym coded.0) ∙ length-bits_of part.ir_length word, each_coded parts words codes coded.2)
 each_coded [] [] (code ∷ codes) coded = absurd coded
@@ -38,11 +48,11 @@ each_coded [] (word ∷ words) codes coded = absurd coded
 each_coded (part ∷ parts) [] codes coded = absurd coded
 each_coded (part ∷ parts) (word ∷ words) [] coded = absurd coded
 
-pub as_many : (rs : List InstructionState) (words : List ℕ) (codes : List (List Bool)) → AreCodes (parts_of rs) words codes → length words ≡ length rs
+pub as_many : (rs : List InstructionState) (words : List ℕ) (codes : List (List Bool)) → SpellCodes (parts_of rs) words codes → length words ≡ length rs
 as_many rs words codes coded = coded_length (parts_of rs) words codes coded ∙ length-map rs (λ (register : InstructionState). register.part)
 
-pub coded_anew : (parts : List DeviceType) (words : List ℕ) (codes : List (List Bool)) → AreCodes parts words codes → AreCodes parts words (codes_of parts words)
-coded_anew parts words codes coded = subst (AreCodes parts words) (sym (codes_are parts words codes coded)) coded
+pub coded_anew : (parts : List DeviceType) (words : List ℕ) (codes : List (List Bool)) → SpellCodes parts words codes → SpellCodes parts words (codes_of parts words)
+coded_anew parts words codes coded = subst (SpellCodes parts words) (sym (codes_are parts words codes coded)) coded
 
 -- ---- what the acts keep
 
@@ -63,8 +73,8 @@ length-shifted_through bits [] = refl
 length-shifted_through bits (r ∷ rs) = ap suc (length-shifted_through (shifted_out r.stage bits) rs)
 
 -- other registers of the same device types have the same codes
-pub codes_stay : (rs now : List InstructionState) (words : List ℕ) → parts_of now ≡ parts_of rs → AreCodes (parts_of rs) words (codes_of (parts_of rs) words) → AreCodes (parts_of now) words (codes_of (parts_of now) words)
-codes_stay rs now words same coded = subst (λ (parts : List DeviceType). AreCodes parts words (codes_of parts words)) (sym same) coded
+pub codes_stay : (rs now : List InstructionState) (words : List ℕ) → parts_of now ≡ parts_of rs → SpellCodes (parts_of rs) words (codes_of (parts_of rs) words) → SpellCodes (parts_of now) words (codes_of (parts_of now) words)
+codes_stay rs now words same coded = subst (λ (parts : List DeviceType). SpellCodes parts words (codes_of parts words)) (sym same) coded
 
 abbrev pub shown : List InstructionState → List ℕ → GroupInstructions
 shown rs words = record { registers = rs; codes = codes_of (parts_of rs) words }
@@ -72,7 +82,7 @@ shown rs words = record { registers = rs; codes = codes_of (parts_of rs) words }
 pub shown_after : (rs now after : List InstructionState) (words : List ℕ) → now ≡ after → parts_of after ≡ parts_of rs → shown now words ≡ record { registers = after; codes = codes_of (parts_of rs) words }
 shown_after rs now after words is same = λ i. record { registers = is i; codes = codes_of ((ap parts_of is ∙ same) i) words }
 
-pub shown_with : (rs : List InstructionState) (words : List ℕ) (codes : List (List Bool)) → AreCodes (parts_of rs) words codes → shown rs words ≡ record { registers = rs; codes = codes }
+pub shown_with : (rs : List InstructionState) (words : List ℕ) (codes : List (List Bool)) → SpellCodes (parts_of rs) words codes → shown rs words ≡ record { registers = rs; codes = codes }
 shown_with rs words codes coded = λ i. record { registers = rs; codes = codes_are (parts_of rs) words codes coded i }
 
 -- ---- at power-up

@@ -7,7 +7,7 @@ use Rattle.scan_bits.specs.Registers.{bit_at, joined, lowest_or, shifted_all, sh
 use Rattle.scan_bits.proofs.WordLaws.{length-bits_of, bits_of-number_of, bits_of-zero, number_of-bits_of}
 use Rattle.scan_bits.proofs.Queue.{length-shifted_all, length-shifted_out}
 use Rattle.part_model.specs.Parts.{DeviceType}
-use Rattle.virtual_tap.specs.Instructions.{InstructionState, StageFits, AreCodes, at_power_up, shifted_in, shifted_through, out_of, parts_of, stages_of}
+use Rattle.virtual_tap.specs.Instructions.{InstructionState, StageFits, SpellCodes, at_power_up, shifted_in, shifted_through, out_of, parts_of, stages_of}
 
 -- ---- one register
 
@@ -91,18 +91,18 @@ outlet (r ∷ s ∷ rs) (suc k) d default last some = lowest_joined default (joi
 -- ---- codes
 
 pub next_coded : (code : InstructionState → List Bool) (rs : List InstructionState) (words : List ℕ) (i j w : ℕ) (d : InstructionState) → i < length rs → length words ≡ length rs → j ≡ suc i
-    → AreCodes (parts_of (take i rs)) (take i words) (map code (take i rs)) → bits_of (get_or rs i d).part.ir_length w ≡ code (get_or rs i d) → w < 2 ^ (get_or rs i d).part.ir_length
-    → AreCodes (parts_of (take j rs)) (take j (slice_set words i w)) (map code (take j rs))
+    → SpellCodes (parts_of (take i rs)) (take i words) (map code (take i rs)) → bits_of (get_or rs i d).part.ir_length w ≡ code (get_or rs i d) → w < 2 ^ (get_or rs i d).part.ir_length
+    → SpellCodes (parts_of (take j rs)) (take j (slice_set words i w)) (map code (take j rs))
 next_coded code [] words i j w d lt long j_is coded is bound = absurd (omega (arith, lt))
 next_coded code (r ∷ rs) [] i j w d lt long j_is coded is bound = absurd (let e : 0 ≡ suc (length rs) = long in omega (arith, e))
 next_coded code (r ∷ rs) (word ∷ words) zero j w d lt long j_is coded is bound =
-    subst (λ (n : ℕ). AreCodes (parts_of (take n (r ∷ rs))) (take n (w ∷ words)) (map code (take n (r ∷ rs)))) (sym j_is) (is, bound, tt)
+    subst (λ (n : ℕ). SpellCodes (parts_of (take n (r ∷ rs))) (take n (w ∷ words)) (map code (take n (r ∷ rs)))) (sym j_is) (is, bound, tt)
 next_coded code (r ∷ rs) (word ∷ words) (suc i) j w d lt long j_is coded is bound =
-    subst (λ (n : ℕ). AreCodes (parts_of (take n (r ∷ rs))) (take n (word ∷ slice_set words i w)) (map code (take n (r ∷ rs)))) (sym j_is)
+    subst (λ (n : ℕ). SpellCodes (parts_of (take n (r ∷ rs))) (take n (word ∷ slice_set words i w)) (map code (take n (r ∷ rs)))) (sym j_is)
     (coded.0, coded.1, next_coded code rs words i (suc i) w d (omega (arith, lt)) (omega (arith, long)) refl coded.2 is bound)
 
 pub all_coded : (code : InstructionState → List Bool) (rs : List InstructionState) (words : List ℕ) (n : ℕ) → length words ≡ length rs → length words ≤ n
-    → AreCodes (parts_of (take n rs)) (take n words) (map code (take n rs)) → AreCodes (parts_of rs) words (map code rs)
+    → SpellCodes (parts_of (take n rs)) (take n words) (map code (take n rs)) → SpellCodes (parts_of rs) words (map code rs)
 all_coded code [] [] n long le coded = tt
 all_coded code [] (word ∷ words) n long le coded = absurd (let e : suc (length words) ≡ 0 = long in omega (arith, e))
 all_coded code (r ∷ rs) [] n long le coded = absurd (let e : 0 ≡ suc (length rs) = long in omega (arith, e))

@@ -65,11 +65,11 @@ abbrev pub out_of : List Bool → List InstructionState → List Bool
 out_of bits [] = bits
 out_of bits (register ∷ registers) = out_of (shifted_out register.stage bits) registers
 
--- the words are codes of these device types: each has the bits of one code, and no more
-abbrev pub AreCodes : List DeviceType → List ℕ → List (List Bool) → Type 0
-AreCodes [] [] [] = Unit {0}
-AreCodes (part ∷ parts) (word ∷ words) (code ∷ codes) = (bits_of part.ir_length word ≡ code) × (word < 2 ^ part.ir_length) × AreCodes parts words codes
-AreCodes _ _ _ = ⊥
+-- the words are these codes of these device types: each has the bits of one code, and no more
+abbrev pub SpellCodes : List DeviceType → List ℕ → List (List Bool) → Type 0
+SpellCodes [] [] [] = Unit {0}
+SpellCodes (part ∷ parts) (word ∷ words) (code ∷ codes) = (bits_of part.ir_length word ≡ code) × (word < 2 ^ part.ir_length) × SpellCodes parts words codes
+SpellCodes _ _ _ = ⊥
 
 -- what the registers of the group do on a rising edge
 abbrev pub risen : Tap → Bool → List InstructionState → List InstructionState

@@ -4,7 +4,7 @@ ghost use Rattle.std.specs.List.{All};
 ghost use Rattle.scan_bits.specs.Words.{bits_of, number_of};
 ghost use Rattle.scan_bits.specs.Registers.{joined, lowest_or};
 ghost use Rattle.scan_share.specs.PrivateChains.{entries_at};
-ghost use Rattle.virtual_tap.specs.Instructions.{AreCodes, ArePlans, at_power_up, captured, cleared, fallen_codes, out_of, parts_of, reset_codes_of, risen, shifted_through, stages_of};
+ghost use Rattle.virtual_tap.specs.Instructions.{SpellCodes, ArePlans, at_power_up, captured, cleared, fallen_codes, out_of, parts_of, reset_codes_of, risen, shifted_through, stages_of};
 
 use crate::instruction::InstructionRegister;
 use crate::instructions;
@@ -22,13 +22,13 @@ pub struct InstructionRegisters {
 
 impl Model for InstructionRegisters {
     ghost use Rattle.scan_share.specs.Scans.{codes_of};
-    ghost use Rattle.virtual_tap.specs.Instructions.{AreCodes, GroupInstructions, parts_of};
+    ghost use Rattle.virtual_tap.specs.Instructions.{SpellCodes, GroupInstructions, parts_of};
 
     ghost Value = { GroupInstructions };
 
     ghost view = { λ i. record { registers = i.registers.items; codes = codes_of (parts_of i.registers.items) i.codes.items } };
 
-    ghost invariant = { λ i. AreCodes (parts_of i.registers.items) i.codes.items (codes_of (parts_of i.registers.items) i.codes.items) };
+    ghost invariant = { λ i. SpellCodes (parts_of i.registers.items) i.codes.items (codes_of (parts_of i.registers.items) i.codes.items) };
 }
 
 // The registers of the devices at these places, at power-up.
@@ -50,7 +50,7 @@ fn powered_registers(
 
 // The codes at power-up.
 fn powered_codes(alloc: Global, registers: &[InstructionRegister]) -> Result<Vec<u64>, AllocError>
-    ensures { IfOk result (λ codes. AreCodes (parts_of registers.now) codes.items (reset_codes_of registers.now)) }
+    ensures { IfOk result (λ codes. SpellCodes (parts_of registers.now) codes.items (reset_codes_of registers.now)) }
 {
     let mut codes = vec![in alloc; 0; registers.len()]?;
     instructions::reset(&mut codes, registers);
@@ -76,7 +76,7 @@ impl InstructionRegisters {
 
     // The codes in force.
     pub fn codes(&self) -> &[u64]
-        ensures { AreCodes (parts_of self.now.registers) result.now self.now.codes }
+        ensures { SpellCodes (parts_of self.now.registers) result.now self.now.codes }
     {
         &self.codes
     }

@@ -2,7 +2,7 @@
 ghost use Rattle.std.specs.Prelude.{◌≡◌, ◌≤◌, ◌<◌, ◌^◌, true, map, length};
 ghost use Rattle.scan_bits.specs.Words.{bits_of, number_of};
 ghost use Rattle.scan_bits.specs.Registers.{joined, lowest_or};
-ghost use Rattle.virtual_tap.specs.Instructions.{AreCodes, captured, cleared, shifted_through, out_of, parts_of, reset_codes_of, stages_of};
+ghost use Rattle.virtual_tap.specs.Instructions.{SpellCodes, captured, cleared, shifted_through, out_of, parts_of, reset_codes_of, stages_of};
 
 use crate::instruction::InstructionRegister;
 
@@ -52,7 +52,7 @@ pub fn lowest(registers: &[InstructionRegister]) -> bool
 // Update-IR: the stages become the codes.
 pub fn update(codes: &mut [u64], registers: &[InstructionRegister])
     requires { length codes.old ≡ length registers.now }
-    ensures { AreCodes (parts_of registers.now) codes.new (stages_of registers.now) }
+    ensures { SpellCodes (parts_of registers.now) codes.new (stages_of registers.now) }
 {
     for at in 0..codes.len() {
         codes[at] = registers[at].staged_code();
@@ -62,7 +62,7 @@ pub fn update(codes: &mut [u64], registers: &[InstructionRegister])
 // Test-Logic-Reset: the reset codes become the codes.
 pub fn reset(codes: &mut [u64], registers: &[InstructionRegister])
     requires { length codes.old ≡ length registers.now }
-    ensures { AreCodes (parts_of registers.now) codes.new (reset_codes_of registers.now) }
+    ensures { SpellCodes (parts_of registers.now) codes.new (reset_codes_of registers.now) }
 {
     for at in 0..codes.len() {
         codes[at] = registers[at].reset_code();

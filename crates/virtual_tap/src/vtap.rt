@@ -8,10 +8,11 @@ ghost use Rattle.part_model.specs.Plans.{IsPart};
 ghost use Rattle.grant_table.specs.Layouts.{group_of};
 ghost use Rattle.chain_model.specs.Chains.{ChainState, Placed, reset};
 ghost use Rattle.chain_model.specs.Cycles.{rise, fall, after_cycles, answers, clocks_of};
+ghost use Rattle.scan_share.specs.Codes.{AreCodes};
 ghost use Rattle.scan_share.specs.PrivateChains.{entries_at, private_chain};
 ghost use Rattle.scan_share.specs.Scans.{codes_of, types_of, widths_during};
 ghost use Rattle.virtual_tap.specs.Views.{IsView, StandsFor, MovesAs, at_capture, closed_view, opened_view};
-ghost use Rattle.virtual_tap.specs.Instructions.{AreCodes, at_power_up, parts_of, reset_codes_of};
+ghost use Rattle.virtual_tap.specs.Instructions.{SpellCodes, at_power_up, parts_of, reset_codes_of};
 ghost use Rattle.virtual_tap.specs.Taps.{IsOfLayout, KeepsTap, VTapState, at_update, longest_scan, may_be_open};
 
 use crate::edges::{ends_scan, rise_register, shift, tdo_of};
@@ -79,8 +80,9 @@ impl VTap {
 
     /// The codes in force, from TDI on, one for each device of the group. Bit 0 of a code is nearest TDO.
     pub fn codes(&self) -> &[u64]
-        ensures each { AreCodes self.now.parts result.now self.now.view.codes }
+        ensures each { SpellCodes self.now.parts result.now self.now.view.codes }
         ensures words { codes_of self.now.parts result.now ≡ self.now.view.codes }
+        ensures fit { AreCodes self.now.parts result.now }
         ensures view { IsView self.now.parts self.now.view }
     {
         self.instructions.codes()
