@@ -1,7 +1,6 @@
 -- What an answer of a chain of readings means.
-use Rattle.std.proofs.Common.{◌≡◌, ℕ, Bool, true, false, if◌then◌else◌, Result, Ok, Err, refl, subst}
-use Rattle.setup_document.specs.declared.plan.Place.{Place}
-use Rattle.setup_document.specs.Keys.{DocumentFault, and_then, refuse}
+use Rattle.std.proofs.Common.{◌≡◌, Bool, true, false, if◌then◌else◌, Result, Ok, Err, refl, subst}
+use Rattle.setup_document.specs.Keys.{DocumentFault, and_then}
 
 -- what a value means, and what a fault means
 abbrev pub Means : {A : Type 0} → (A → Type 0) → (DocumentFault → Type 0) → Result A DocumentFault → Type 0

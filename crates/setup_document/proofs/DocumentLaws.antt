@@ -8,7 +8,7 @@ use Rattle.toml.specs.Parse.{parse_document}
 use Rattle.setup_document.specs.Documents.{document_of}
 
 pub document_found : (bytes : List ℕ) (members : Members) → IsUtf8 bytes → parse_document bytes ≡ Some members → document_of bytes ≡ Some members
-document_found bytes members utf8 is = rw (is_utf8-from_IsUtf8 bytes utf8) is
+document_found bytes _ utf8 is = rw (is_utf8-from_IsUtf8 bytes utf8) is
 
 no_document_of : (bytes : List ℕ) (utf8 : Bool) → is_utf8 bytes ≡ utf8 → (IsUtf8 bytes → parse_document bytes ≡ None) → document_of bytes ≡ None
 no_document_of bytes true is none = rw is (none (IsUtf8-from_is_utf8 bytes is))

@@ -1,16 +1,15 @@
 -- Tables of the format are read, and what is read has the format.
-use Rattle.std.proofs.Common.{◌≡◌, ◌≤◌, ◌⊎◌, inl, inr, ℕ, pos, Bool, true, false, if◌then◌else◌, List, [], ◌∷◌, length, codes, Result, Ok, Err, refl, sym, ap, subst, ◌∙◌}
-use Rattle.std.specs.Prelude.{◌↔◌, nat_lt, IsUtf8}
+use Rattle.std.proofs.Common.{◌≡◌, inl, inr, ℕ, Bool, true, false, if◌then◌else◌, List, [], ◌∷◌, length, codes, Result, Ok, Err, refl, sym, ap, subst}
+use Rattle.std.specs.Prelude.{nat_lt, IsUtf8}
 use Rattle.std.specs.Str.{is_utf8}
 use Rattle.std.specs.declared.option.Option.{Option}
 use Rattle.std.specs.declared.option.Option.TheVariants.{None, Some}
 use Rattle.std.proofs.lemmas.Bool.{ltb-false, le-ltb}
 use Rattle.std.proofs.lemmas.Str.{is_utf8-from_IsUtf8, IsUtf8-from_is_utf8}
-use Rattle.toml.specs.Data.{Data, integer, string, array, table, Items, no_items, item, Members, no_members, member, get_member}
+use Rattle.toml.specs.Data.{Data, array, table, Items, no_items, Members, get_member}
 use Rattle.toml.specs.Parse.{parse_document}
 use Rattle.part_model.specs.declared.Net.{Net}
 use Rattle.grant_table.specs.Faults.{GrantEntry}
-use Rattle.grant_table.specs.declared.Protocol.{Protocol}
 use Rattle.setup_document.specs.declared.plan.Place.{Place}
 use Rattle.setup_document.specs.declared.plan.Place.TheVariants as place
 use Rattle.setup_document.specs.declared.plan.DeviceEntry.{DeviceEntry}
@@ -19,7 +18,7 @@ use Rattle.setup_document.specs.Keys.{DocumentFault, refuse, and_then, keys_at, 
 use Rattle.setup_document.specs.Documents.{pins_at, device, protocol, devices_at, port_at, protocol_at, grant, end_at, net, version_at, vector_at, nets_at, TopKeys, array_at, top_keys, entries, document_of, of_document, plan_of}
 use Rattle.setup_document.specs.Format.{EachSays, OnlyKeys, IsNumber, IsFileName, ArePins, IsProtocol, IsArray, IsEnd, Has, MayHave, HasPins, IsDevice, IsGrant, IsNet, IsPlan}
 use Rattle.setup_document.specs.Laws.{DocumentsHaveFormat, IsSetupFile, FilesHaveFormat}
-use Rattle.setup_document.proofs.Chains.{Means, chained, changed, tested, said_by}
+use Rattle.setup_document.proofs.Chains.{Means, chained, changed, said_by}
 use Rattle.setup_document.proofs.Values.{any, known_says, known_reads, table_says, required_says, number_says, number_reads, items_says, name_says, name_reads, pins_says, pins_reads, protocol_says, protocol_reads, numbers_says, numbers_reads, pair_says, pair_reads, each_says, each_reads}
 
 -- ---- at keys
@@ -37,10 +36,10 @@ has_reads : {A : Type 0} (place : Place) (members : Members) (key : List ℕ) (r
 has_reads place _ key read says x one has = rw has.there (one has.value has.such)
 
 -- two readings of one value, one behind the other
-abbrev behind : {A B : Type 0} → (Data → Result A DocumentFault) → (A → Result B DocumentFault) → Data → Result B DocumentFault
+abbrev pub behind : {A B : Type 0} → (Data → Result A DocumentFault) → (A → Result B DocumentFault) → Data → Result B DocumentFault
 behind first more value = and_then (first value) more
 
-nested : {A B : Type 0} (one : Result Data DocumentFault) (first : Data → Result A DocumentFault) (more : A → Result B DocumentFault) → and_then (and_then one first) more ≡ and_then one (behind first more)
+pub nested : {A B : Type 0} (one : Result Data DocumentFault) (first : Data → Result A DocumentFault) (more : A → Result B DocumentFault) → and_then (and_then one first) more ≡ and_then one (behind first more)
 nested (Ok value) first more = refl
 nested (Err fault) first more = refl
 
@@ -95,7 +94,7 @@ devices_at_says place members =
     (has_says place members (codes "devices") (behind (items_in place) (numbers place)) (IsArray (IsNumber 0 65535)) (numbers_in_says place))
 
 devices_at_reads : (place : Place) (members : Members) (devices : List ℕ) → Has members (codes "devices") (λ value. IsArray (IsNumber 0 65535) value devices) → devices_at place members ≡ Ok devices
-devices_at_reads place members devices has = rw has.there (rw has.such.is (numbers_reads place has.such.items devices has.such.each))
+devices_at_reads place _ devices has = rw has.there (rw has.such.is (numbers_reads place has.such.items devices has.such.each))
 
 pub grant_says : (number : ℕ) (value : Data) → Means (IsGrant value) any (grant (place.Grant number) value)
 grant_says number value =
@@ -138,7 +137,7 @@ end_at_says place members key =
     (has_says place members key (behind (items_in place) (pair place)) SaysEnd (end_says place))
 
 end_at_reads : (place : Place) (members : Members) (key : List ℕ) (device cell : ℕ) → Has members key (λ value. IsEnd value device cell) → end_at place (get_member key members) ≡ Ok (record { device = device; cell = cell })
-end_at_reads place members key device cell has = rw has.there (rw has.such.is (pair_reads place device cell has.such.device_no_more has.such.cell_no_more))
+end_at_reads place _ key device cell has = rw has.there (rw has.such.is (pair_reads place device cell has.such.device_no_more has.such.cell_no_more))
 
 pub net_says : (number : ℕ) (value : Data) → Means (IsNet value) any (net (place.Net number) value)
 net_says number value =
@@ -186,15 +185,15 @@ nets_say members = by (get_member (codes "net") members) refl
     by (Some value) is = changed (λ items. value ≡ array items) _ any any (items_in place.Top value) (λ items are. inl (record { value = value; there = is; such = are })) (λ fault told. told) (items_says place.Top value)
 
 -- what stands at the keys at the top
-record SaysTop (members : Members) (top : TopKeys) : Type 0 where
-  keys : OnlyKeys (keys_at place.Top) members
-  has_version : Has members (codes "version") (λ value. IsNumber 1 2 value top.version)
-  has_vector : MayHave members (codes "vector") (λ value. IsNumber 1 65536 value top.vector) (top.vector ≡ 2048)
-  has_devices : Has members (codes "device") (λ value. value ≡ array top.devices)
-  has_grants : Has members (codes "grant") (λ value. value ≡ array top.grants)
-  has_nets : HasNets members top.nets
+pub record SaysTop (members : Members) (top : TopKeys) : Type 0 where
+  pub keys : OnlyKeys (keys_at place.Top) members
+  pub has_version : Has members (codes "version") (λ value. IsNumber 1 2 value top.version)
+  pub has_vector : MayHave members (codes "vector") (λ value. IsNumber 1 65536 value top.vector) (top.vector ≡ 2048)
+  pub has_devices : Has members (codes "device") (λ value. value ≡ array top.devices)
+  pub has_grants : Has members (codes "grant") (λ value. value ≡ array top.grants)
+  pub has_nets : HasNets members top.nets
 
-abbrev top_of : ℕ → ℕ → Items → Items → Items → TopKeys
+abbrev pub top_of : ℕ → ℕ → Items → Items → Items → TopKeys
 top_of version vector devices grants nets = record { version = version; vector = vector; devices = devices; grants = grants; nets = nets }
 
 array_at_says : (members : Members) (key : List ℕ) → Means (λ items. Has members key (λ value. value ≡ array items)) any (array_at members key)
@@ -223,7 +222,7 @@ top_behind members keys =
     (nets_say members) (λ nets has_nets.
     record { keys = keys; has_version = has_version; has_vector = has_vector; has_devices = has_devices; has_grants = has_grants; has_nets = has_nets })))))
 
-top_says : (members : Members) → Means (SaysTop members) any (top_keys members)
+pub top_says : (members : Members) → Means (SaysTop members) any (top_keys members)
 top_says members =
     chained (λ found. (found ≡ members) × OnlyKeys (keys_at place.Top) members) (SaysTop members) any (known place.Top members)
     (λ members. and_then (version_at members) (λ version. and_then (vector_at (get_member (codes "vector") members)) (λ vector. and_then (array_at members (codes "device")) (λ devices.
@@ -232,7 +231,7 @@ top_says members =
 
 as_array : {T : Type 0} (says : Data → T → Type 0) (members : Members) (key : List ℕ) (items : Items) (entries : List T)
     → Has members key (λ value. value ≡ array items) → EachSays says items entries → Has members key (λ value. IsArray says value entries)
-as_array says members key items entries has each = record { value = has.value; there = has.there; such = record { items = items; is = has.such; each = each } }
+as_array says _ key items entries has each = record { value = has.value; there = has.there; such = record { items = items; is = has.such; each = each } }
 
 no_nets : (nets : List Net) → EachSays IsNet no_items nets → nets ≡ []
 no_nets [] each = refl
@@ -240,7 +239,7 @@ no_nets (net ∷ nets) each = absurd each
 
 as_nets : (members : Members) (items : Items) (nets : List Net) → HasNets members items → EachSays IsNet items nets → MayHave members (codes "net") (λ value. IsArray IsNet value nets) (nets ≡ [])
 as_nets members items nets (inl has) each = inl (as_array IsNet members (codes "net") items nets has each)
-as_nets members items nets (inr is) each = inr (is.0, no_nets nets (subst (λ i. EachSays IsNet i nets) is.1 each))
+as_nets _ items nets (inr is) each = inr (is.0, no_nets nets (subst (λ i. EachSays IsNet i nets) is.1 each))
 
 entries_say : (members : Members) (top : TopKeys) → SaysTop members top → Means (IsPlan members) any (entries top)
 entries_say members top t =
@@ -295,7 +294,7 @@ documents_have_format members plan = (λ is. said_by (IsPlan members) any (of_do
 
 -- ---- the bytes
 
-found_document : (bytes : List ℕ) (members : Members) → document_of bytes ≡ Some members → IsUtf8 bytes × (parse_document bytes ≡ Some members)
+pub found_document : (bytes : List ℕ) (members : Members) → document_of bytes ≡ Some members → IsUtf8 bytes × (parse_document bytes ≡ Some members)
 found_document bytes members is = by (is_utf8 bytes) refl is
   where
     by : (utf8 : Bool) → is_utf8 bytes ≡ utf8 → (if utf8 then parse_document bytes else None) ≡ Some members → IsUtf8 bytes × (parse_document bytes ≡ Some members)

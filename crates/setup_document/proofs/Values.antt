@@ -1,19 +1,19 @@
 -- Values of the format are read, and what is read has the format.
-use Rattle.std.proofs.Common.{◌≡◌, ◌≤◌, ◌<◌, ◌⊎◌, inl, inr, ℕ, zero, suc, pos, negsuc, Bool, true, false, ◌||◌, ◌==◌, if◌then◌else◌, List, [], ◌∷◌, length, codes, Result, Ok, Err, refl, sym, ap, subst, ◌∙◌, arith}
+use Rattle.std.proofs.Common.{◌≡◌, ◌≤◌, ◌⊎◌, inl, inr, ℕ, suc, pos, negsuc, true, false, ◌||◌, ◌==◌, if◌then◌else◌, List, [], ◌∷◌, length, codes, Result, Ok, refl, sym, ap, subst, arith}
 use Rattle.std.specs.Prelude.{nat_lt}
 use Rattle.std.specs.List.{list_all, list_any}
 use Rattle.std.specs.Str.{bytes_eq}
 use Rattle.std.specs.declared.option.Option.{Option}
 use Rattle.std.specs.declared.option.Option.TheVariants.{None, Some}
-use Rattle.std.proofs.lemmas.Bool.{ltb-false, le-ltb, eqb-true, eqb-false, eq-eqb, or_cases, or_parts, or_from, or_left, or_right, ne_eqb, and_parts, and_from}
+use Rattle.std.proofs.lemmas.Bool.{ltb-false, le-ltb, eqb-true, eq-eqb, or_cases, or_parts, or_from, or_left, or_right, ne_eqb, and_parts, and_from}
 use Rattle.std.proofs.lemmas.Slice.Eq.{bytes_eq-Decides}
-use Rattle.toml.specs.Data.{Data, integer, float, boolean, datetime, string, array, table, Items, no_items, item, Members, no_members, member, get_member}
+use Rattle.toml.specs.Data.{Data, integer, float, boolean, datetime, string, array, table, Items, no_items, item, Members, no_members, member}
 use Rattle.grant_table.specs.declared.Protocol.{Protocol}
 use Rattle.grant_table.specs.declared.Protocol.TheVariants.{Xvc, Bitbang}
 use Rattle.setup_document.specs.declared.plan.Place.{Place}
 use Rattle.setup_document.specs.Keys.{DocumentFault, refuse, and_then, is_known, are_known, keys_at, known, table_in, required, number_in, items_in, file_name, is_pin, pins, are_integers, small_numbers, numbers, Pair, two_numbers, pair, each}
 use Rattle.setup_document.specs.Documents.{protocol}
-use Rattle.setup_document.specs.Format.{Every, EachSays, IsOneOf, OnlyKeys, IsNumber, IsFileName, ArePins, IsProtocol, protocol_name, IsArray, IsEnd, Has}
+use Rattle.setup_document.specs.Format.{Every, EachSays, IsOneOf, OnlyKeys, IsNumber, IsFileName, ArePins, IsProtocol, IsEnd}
 use Rattle.setup_document.proofs.Chains.{Means, chained, changed, tested}
 
 abbrev pub any : DocumentFault → Type 0
@@ -28,7 +28,7 @@ one_of key (other ∷ others) is = elim (or_cases (bytes_eq key other) (list_any
   | inr more ↦ inr (one_of key others more)
 ]
 
-any_of : (key : List ℕ) (keys : List (List ℕ)) → IsOneOf key keys → list_any (bytes_eq key) keys ≡ true
+pub any_of : (key : List ℕ) (keys : List (List ℕ)) → IsOneOf key keys → list_any (bytes_eq key) keys ≡ true
 any_of key [] is = absurd is
 any_of key (other ∷ others) (inl same) = or_left (bytes_eq key other) (list_any (bytes_eq key) others) ((bytes_eq-Decides key other).1 same)
 any_of key (other ∷ others) (inr more) = or_right (bytes_eq key other) (list_any (bytes_eq key) others) (any_of key others more)

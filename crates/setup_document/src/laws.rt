@@ -7,3 +7,10 @@ pub fn files_have_format()
     ensures documents { l.DocumentsHaveFormat }
     ensures files { l.FilesHaveFormat }
 {}
+
+/// Each refusal means what its cause says, at its place: 1 more bytes than the most, 2 no TOML document in UTF-8, 3 a key that is not
+/// known in the table that stands there, 4 a required key that is missing in it, 5 a value of another kind at one of its keys, or no table
+/// at all, and 6 a value out of the range of its key.
+pub fn files_are_refused()
+    ensures { l.FilesAreRefused }
+{}

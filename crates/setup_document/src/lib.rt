@@ -11,5 +11,5 @@ mod plan;
 mod tests;
 
 pub use document::read_document;
-pub use laws::files_have_format;
+pub use laws::{files_are_refused, files_have_format};
 pub use plan::{DeviceEntry, DocumentRefusal, Place, SetupPlan};
