@@ -42,7 +42,7 @@ RefusesName files name _ = Unit {0}
 -- the bytes of an answer, if it has any
 abbrev pub bytes_answered : Result (List ℕ) LoadFault → Option (List ℕ)
 bytes_answered (Ok bytes) = Some bytes
-bytes_answered (Err fault) = None
+bytes_answered (Err _) = None
 
 -- the loads after one more
 abbrev pub after_load : List Load → List ℕ → Result (List ℕ) LoadFault → List Load
