@@ -1,17 +1,21 @@
 -- From the loads and the reader's answers to how `check` ends.
-use Rattle.std.proofs.Common.{◌≡◌, ℕ, ◌≤◌, List, take, refl, ap, sym, subst, ◌∙◌, Some, None, Ok, Err}
+use Rattle.std.proofs.Common.{◌≡◌, ℕ, ◌≤◌, List, [], ◌∷◌, ◌++◌, take, refl, ap, sym, subst, ◌∙◌, Some, None, Ok, Err, append_assoc, append-nil}
 use Rattle.std.specs.Prelude.{IfSome, Result}
 use Rattle.std.specs.Option.{option_map}
 use Rattle.std.specs.declared.option.Option.{Option}
 use Rattle.base_types.specs.Counts.{Rose}
 use Rattle.ports.specs.Shelves.{NamedBytes, named}
+use Rattle.ports.specs.Shelves.{after_load}
+use Rattle.ports.specs.declared.shelf.Load.{Load}
+use Rattle.ports.specs.declared.shelf.LoadFault.TheVariants as fault
+use Rattle.setup_document.specs.Documents.{plan_of}
 use Rattle.setup_read.specs.declared.setup.Setup.{Setup}
 use Rattle.setup_read.specs.declared.setup.SetupRefusal.{SetupRefusal}
 use Rattle.setup_read.specs.declared.setup.SetupRefusal.TheVariants as refusal
 use Rattle.setup_read.specs.Boards.{RefusesAs}
 use Rattle.setup_read.specs.Setups.{setup_of}
-use Rattle.setup_read.specs.Loads.{HasSetupCause}
-use Rattle.share_top.specs.CheckRuns.{setup_bytes, setup_at, IsRefusal, CheckCauses}
+use Rattle.setup_read.specs.Loads.{HasSetupCause, AddsFirst, names_of}
+use Rattle.share_top.specs.CheckRuns.{setup_bytes, setup_at, IsRefusal, CheckCauses, names_in, LoadsListed}
 use Rattle.share_top.specs.declared.check.Checked.TheVariants as ends
 
 -- what the bytes of a name say
@@ -55,3 +59,30 @@ refused_causes (refusal.Absent device) before between now sink same h = (h.count
 refused_causes (refusal.Bsdl device at cause) before between now sink same h = (h.counts ∙ same, refl)
 refused_causes (refusal.Pins device) before between now sink same h = (h.counts ∙ same, refl)
 refused_causes (refusal.Cell net) before between now sink same h = (h.counts ∙ same, refl)
+
+-- ---- what was loaded
+
+-- memory was wanting
+pub listed_none : (before now : List Load) (name : List ℕ) → now ≡ after_load before name (Err fault.Memory) → LoadsListed before now name
+listed_none before now name is = record { added = []; left = name ∷ []; behind = is ∙ sym (append-nil before); called = refl }
+
+-- the setup alone
+listed_one : (before now : List Load) (name : List ℕ) → now ≡ before ++ record { name = name; answer = None } ∷ [] → LoadsListed before now name
+unfolding names_in
+listed_one before now name is = record { added = record { name = name; answer = None } ∷ []; left = []; behind = is; called = refl }
+
+pub listed_absent : (before now : List Load) (name : List ℕ) → now ≡ after_load before name (Err fault.Absent) → LoadsListed before now name
+listed_absent before now name is = listed_one before now name is
+
+pub listed_fault : (before now : List Load) (name : List ℕ) → now ≡ after_load before name (Err fault.Fault) → LoadsListed before now name
+listed_fault before now name is = listed_one before now name is
+
+-- and the files that its bytes name
+pub listed_more : (before between now : List Load) (name bytes : List ℕ) → between ≡ after_load before name (Ok bytes) → AddsFirst between now (names_of (plan_of bytes)) → LoadsListed before now name
+unfolding names_in
+listed_more before between now name bytes is first = record {
+  added = record { name = name; answer = Some bytes } ∷ first.adds.added;
+  left = first.left;
+  behind = first.adds.behind ∙ ap (λ loads. loads ++ first.adds.added) is ∙ append_assoc before (record { name = name; answer = Some bytes } ∷ []) first.adds.added;
+  called = ap (λ names. name ∷ names) first.adds.called;
+}

@@ -1,5 +1,5 @@
 -- A run of `check`: how it ends, its status, and its last line.
-use Rattle.std.specs.Prelude.{◌≡◌, ◌⊎◌, ℕ, List, [], take, codes, IfSome, Result, Ok, Err}
+use Rattle.std.specs.Prelude.{◌≡◌, ◌⊎◌, ℕ, List, [], ◌∷◌, ◌++◌, map, take, codes, IfSome, Result, Ok, Err}
 use Rattle.std.specs.Option.{option_map}
 use Rattle.std.specs.declared.option.Option.{Option}
 use Rattle.std.specs.declared.option.Option.TheVariants.{None, Some}
@@ -7,6 +7,9 @@ use Rattle.std.specs.Io.KnownBytes.{Appends}
 use Rattle.base_types.specs.Counts.{Rose}
 use Rattle.ports.specs.Streams.{AppendsFront}
 use Rattle.ports.specs.Shelves.{NamedBytes, named}
+use Rattle.ports.specs.declared.shelf.Load.{Load}
+use Rattle.setup_document.specs.Documents.{plan_of}
+use Rattle.setup_read.specs.Loads.{names_of}
 use Rattle.setup_read.specs.declared.setup.Setup.{Setup}
 use Rattle.setup_read.specs.declared.setup.SetupRefusal.{SetupRefusal}
 use Rattle.setup_read.specs.declared.setup.SetupRefusal.TheVariants as refusal
@@ -74,3 +77,22 @@ pub record RunsCheck (status : ℕ) (files : Option (List NamedBytes)) (name : L
   pub ends : EndsCheck checked files name sent between
   pub causes : CheckCauses checked shelf shelf' sink sink_between
   pub tells : TellsCheck checked status between sent' sink_between sink'
+
+-- ---- what is loaded
+
+-- the BSDL files that the bytes of a load name, in the order of the devices; none where there are no bytes, or they are no setup file
+unfoldable pub names_in : Option (List ℕ) → List (List ℕ)
+names_in None = []
+names_in (Some bytes) = names_of (plan_of bytes)
+
+-- what may be loaded, by the loads that were made: the setup, and the files that the bytes of the first load name
+abbrev pub listed : List ℕ → List Load → List (List ℕ)
+listed name [] = name ∷ []
+listed name (load ∷ loads) = name ∷ names_in load.answer
+
+-- the loads that were made stand behind those before, and have the first of these names
+pub record LoadsListed (before now : List Load) (name : List ℕ) : Type 0 where
+  pub added : List Load
+  pub left : List (List ℕ)
+  pub behind : now ≡ before ++ added
+  pub called : listed name added ≡ map (λ load. load.name) added ++ left

@@ -1,5 +1,5 @@
--- The command `pipe demo 1`: a session from the input over the demo chain, and its replies to the output.
-use Rattle.std.specs.Prelude.{◌≡◌, ◌⊎◌, ℕ, List, [], ◌∷◌, length, codes}
+-- The words of the commands; and the command `pipe demo 1`: a session from the input over the demo chain, and its replies to the output.
+use Rattle.std.specs.Prelude.{◌≡◌, ◌≢◌, ◌⊎◌, ℕ, List, [], ◌∷◌, length, codes}
 use Rattle.std.specs.declared.option.Option.{Option}
 use Rattle.std.specs.Io.KnownBytes.{Appends, Consumes, IsAtEnd}
 use Rattle.base_types.specs.Tellings.{Told, Both}
@@ -12,6 +12,14 @@ use Rattle.share_top.specs.Demo.{EndsSo, Leaves, replies_to}
 
 abbrev pub pipe_demo_words : List (List ℕ)
 pipe_demo_words = codes "pipe" ∷ codes "demo" ∷ codes "1" ∷ []
+
+-- `check` of the setup of this name
+abbrev pub check_words : List ℕ → List (List ℕ)
+check_words name = codes "check" ∷ name ∷ []
+
+-- the words are not `check` of any setup
+abbrev pub NoCheck : List (List ℕ) → Type 0
+NoCheck words = (name : List ℕ) → words ≢ check_words name
 
 -- the bench, where it tells its chain, is left with this one
 abbrev pub LeavesChain : Option ChainState → Option ChainState → ChainState → Type 0

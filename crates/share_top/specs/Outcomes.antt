@@ -92,8 +92,17 @@ line_of CableFault = codes "cable fault" ++ 10 ∷ []
 line_of Long = codes "too long" ++ 10 ∷ []
 line_of Memory = codes "memory" ++ 10 ∷ []
 
+-- the statuses of the commands other than `check`
+abbrev pub IsOtherStatus : ℕ → Type 0
+IsOtherStatus status = (status ≡ 0) ⊎ (status ≡ 1) ⊎ (status ≡ 2) ⊎ (status ≡ 4) ⊎ (status ≡ 5) ⊎ (status ≡ 7) ⊎ (status ≡ 8) ⊎ (status ≡ 9)
+
+-- those of `check`
+abbrev pub IsCheckStatus : ℕ → Type 0
+IsCheckStatus status = (status ≡ 0) ⊎ (status ≡ 3) ⊎ (status ≡ 4) ⊎ (status ≡ 5) ⊎ (status ≡ 9) ⊎ (status ≡ 12)
+
+-- all of them
 abbrev pub IsStatus : ℕ → Type 0
-IsStatus status = (status ≡ 0) ⊎ (status ≡ 1) ⊎ (status ≡ 2) ⊎ (status ≡ 4) ⊎ (status ≡ 5) ⊎ (status ≡ 7) ⊎ (status ≡ 8) ⊎ (status ≡ 9)
+IsStatus status = IsOtherStatus status ⊎ (status ≡ 3) ⊎ (status ≡ 12)
 
 -- a count of faults and the status that it stands behind: the status comes only where the count rose in the call, and with every other one
 -- the count stays, save that 5 may hide it
@@ -101,6 +110,13 @@ pub record Counts (fault status before now : ℕ) : Type 0 where
   pub later : before ≤ now
   pub rose : status ≡ fault → Rose before now
   pub kept : status ≢ fault → status ≢ 5 → now ≡ before
+
+-- two counts of faults and the status that stands behind both: the status comes only where one of them rose, and with every other one both
+-- stay, save that 5 may hide it
+pub record CountsEither (fault status before now before' now' : ℕ) : Type 0 where
+  pub later : (before ≤ now) × (before' ≤ now')
+  pub rose : status ≡ fault → Rose before now ⊎ Rose before' now'
+  pub kept : status ≢ fault → status ≢ 5 → (now ≡ before) × (now' ≡ before')
 
 -- a command did this, and then this line went out
 pub record WithLine (does : Option (List ℕ) → Option (List ℕ) → Type 0) (line : List ℕ) (sent sent' : Option (List ℕ)) : Type 0 where

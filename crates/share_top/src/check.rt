@@ -69,6 +69,8 @@ fn setup_named<S: Shelf>(alloc: Global, name: &str, shelf: &mut S) -> Result<Set
     ensures refused { (sent : Option (List ℕ)) → IfErr result (λ checked. runs.EndsCheck checked (S.files shelf.old) name.now sent sent) }
     ensures same { OnOk result (S.fault_count shelf.new ≡ S.fault_count shelf.old) }
     ensures causes { (sink : ℕ) → IfErr result (λ checked. runs.CheckCauses checked (S.fault_count shelf.old) (S.fault_count shelf.new) sink sink) }
+    ensures files { S.files shelf.new ≡ S.files shelf.old }
+    ensures loads { runs.LoadsListed (S.loads shelf.old) (S.loads shelf.new) name.now }
 {
     let bytes = match shelf.load(alloc, name, MOST_LOADED) {
         Ok(bytes) => bytes,
@@ -86,6 +88,8 @@ fn setup_named<S: Shelf>(alloc: Global, name: &str, shelf: &mut S) -> Result<Set
 fn show_setup<S: Shelf, O: Sink>(alloc: Global, name: &str, shelf: &mut S, out: &mut O) -> Checked
     ensures ends { runs.EndsCheck result (S.files shelf.old) name.now (O.sent out.old) (O.sent out.new) }
     ensures causes { runs.CheckCauses result (S.fault_count shelf.old) (S.fault_count shelf.new) (O.fault_count out.old) (O.fault_count out.new) }
+    ensures files { S.files shelf.new ≡ S.files shelf.old }
+    ensures loads { runs.LoadsListed (S.loads shelf.old) (S.loads shelf.new) name.now }
 {
     let setup = match setup_named(alloc, name, shelf) {
         Ok(setup) => setup,
@@ -118,8 +122,13 @@ fn tell_checked<O: Sink>(out: &mut O, checked: Checked) -> u8
 /// | 5 | the sink's count of faults rose | a front of what had to be written |
 /// | 9 | memory was wanting | `memory` |
 /// | 12 | the setup file or that of a device is not there | `absent setup`, or `absent device` with its number from 1 |
+///
+/// The names that are loaded are the first of these: that of the setup, and those of the BSDL files in the bytes that were answered,
+/// in the order of the devices; that of the setup alone where the bytes are no setup file.
 pub fn check<S: Shelf, O: Sink>(alloc: Global, name: &str, shelf: &mut S, out: &mut O) -> u8
-    ensures { runs.RunsCheck result (S.files shelf.old) name.now (O.sent out.old) (O.sent out.new) (S.fault_count shelf.old) (S.fault_count shelf.new) (O.fault_count out.old) (O.fault_count out.new) }
+    ensures runs { runs.RunsCheck result (S.files shelf.old) name.now (O.sent out.old) (O.sent out.new) (S.fault_count shelf.old) (S.fault_count shelf.new) (O.fault_count out.old) (O.fault_count out.new) }
+    ensures files { S.files shelf.new ≡ S.files shelf.old }
+    ensures loads { runs.LoadsListed (S.loads shelf.old) (S.loads shelf.new) name.now }
 {
     let checked = show_setup(alloc, name, shelf, out);
     tell_checked(out, checked)

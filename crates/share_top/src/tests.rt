@@ -1,5 +1,7 @@
 // Worked rows of the commands, and each call that fails.
-ghost use Rattle.std.specs.Prelude.{◌≡◌, IfOk};
+ghost use Rattle.std.specs.Prelude.{◌≡◌, IfOk, map};
+ghost use Rattle.std.specs.String.{string_bytes};
+ghost use Rattle.share_top.specs.Commands.{pipe_demo_words};
 ghost use Rattle.base_types.specs.Tellings.{Told};
 ghost use Rattle.chain_model.specs.Cables.{empty_chain, HasDevice};
 
@@ -7,7 +9,7 @@ use crate::{RanLocal, local_command};
 use bitbang_frame::Letter;
 use bitbang_frame::table::letter;
 use chain_model::{Bench, Chain, TapeBench, demo_board};
-use ports::{MemSink, MemSource};
+use ports::{MemShelf, MemSink, MemSource};
 use scan_bits::Bits;
 use std::alloc::{AllocError, Global};
 use std::test::Fail;
@@ -20,15 +22,22 @@ const READ_IDCODE: [u8; 20] = [
 
 const IDCODE_REPLY: [u8; 5] = [0xff, 0, 0xcd, 0xab, 0x31];
 
-fn texts(alloc: Global, words: &[&str]) -> Result<Vec<String>, AllocError> {
-    let mut all = Vec::new(alloc);
-    for word in words {
-        all.push(String::from_str(alloc, word)?)?;
-    }
-    Ok(all)
+fn pipe_demo_words(alloc: Global) -> Result<Vec<String>, AllocError>
+    ensures { IfOk result (λ words. map string_bytes words.items ≡ pipe_demo_words) }
+{
+    let mut words = Vec::new(alloc);
+    words.push(String::from_str(alloc, "pipe")?)?;
+    words.push(String::from_str(alloc, "demo")?)?;
+    words.push(String::from_str(alloc, "1")?)?;
+    Ok(words)
 }
 
-// The command on a bench, from an input in pieces and with the reads and writes of these numbers failing.
+// A shelf without files.
+fn no_files(alloc: Global) -> MemShelf {
+    MemShelf::new(alloc, Vec::new(alloc), Vec::new(alloc))
+}
+
+// The command `pipe demo 1` on a bench, from an input in pieces and with the reads and writes of these numbers failing.
 fn run<B: Bench + Drop>(
     alloc: Global,
     bench: B,
@@ -41,11 +50,12 @@ fn run<B: Bench + Drop>(
     ensures device { IfOk result (λ ran. ran.status ≡ 0 → Told (B.chain ran.bench) HasDevice) }
     ensures refused { IfOk result (λ ran. ran.status ≡ 1 → Told (B.chain ran.bench) HasDevice) }
 {
-    let words = texts(alloc, &["pipe", "demo", "1"])?;
+    let words = pipe_demo_words(alloc)?;
+    let mut files = no_files(alloc);
     let fails = failing_reads.to_vec(alloc)?;
     let mut source = MemSource::new(input.to_vec(alloc)?, pieces.to_vec(alloc)?, fails);
     let sink = MemSink::new(alloc, 100, 3, failing_writes.to_vec(alloc)?)?;
-    Ok(local_command(alloc, &words, bench, &mut source, sink))
+    Ok(local_command(alloc, &words, bench, &mut files, &mut source, sink))
 }
 
 #[test]
@@ -159,11 +169,19 @@ fn other_words_are_told(rt: HostRuntime) -> Result<(), Fail> {
         Vec::new(rt.alloc()),
     );
     let sink = MemSink::new(rt.alloc(), 100, 3, Vec::new(rt.alloc()))?;
+    let mut files = no_files(rt.alloc());
     let RanLocal {
         status,
         bench: _,
         out,
-    } = local_command(rt.alloc(), &[], Chain::empty(), &mut source, sink);
+    } = local_command(
+        rt.alloc(),
+        &[],
+        Chain::empty(),
+        &mut files,
+        &mut source,
+        sink,
+    );
     assert_eq!(rt; status, 2);
     assert_eq!(rt; out.written(), b"words\n".as_slice());
     Ok(())

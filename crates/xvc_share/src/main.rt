@@ -2,7 +2,7 @@
 #![tactic(auto)]
 
 use chain_model::Chain;
-use ports::{Sink, StdSink, StdSource, write_all};
+use ports::{FolderShelf, Sink, StdSink, StdSource, write_all};
 use share_top::{RanLocal, local_command};
 use std::alloc::Global;
 use std::env;
@@ -50,16 +50,18 @@ fn tell_no_memory<O: Sink>(out: &mut O) -> u8 {
 fn run(rt: HostRuntime, alloc: Global) -> u8 {
     let words = words(&rt, alloc);
     let input: Result<HostRuntime, _> = rt.clone();
+    let files: Result<HostRuntime, _> = rt.clone();
     let mut out = StdSink::new(rt);
-    let (Ok(words), Ok(input)) = (words, input) else {
+    let (Ok(words), Ok(input), Ok(files)) = (words, input, files) else {
         return tell_no_memory(&mut out);
     };
+    let mut shelf = FolderShelf::new(files, alloc);
     let mut input = StdSource::new(input);
     let RanLocal {
         status,
         bench: _,
         out: _,
-    } = local_command(alloc, &words, Chain::empty(), &mut input, out);
+    } = local_command(alloc, &words, Chain::empty(), &mut shelf, &mut input, out);
     status
 }
 
