@@ -1,5 +1,5 @@
 -- Words tested one by one for whether they are codes of a group's devices.
-use Rattle.std.proofs.Common.{◌≡◌, ◌≤◌, ◌<◌, ◌+◌, ◌*◌, ◌^◌, ℕ, zero, suc, Bool, true, false, List, [], ◌∷◌, length, drop, replicate, refl, ap, sym, subst, ◌∙◌, arith, leb, ltb, eqb, inl, inr, Some}
+use Rattle.std.proofs.Common.{◌≡◌, ◌≤◌, ◌<◌, ◌+◌, ◌^◌, ℕ, zero, suc, true, List, [], ◌∷◌, length, drop, replicate, refl, ap, sym, subst, ◌∙◌, arith, leb, ltb, eqb, inl, inr, Some}
 use Rattle.std.specs.declared.option.Option.{Option}
 use Rattle.std.specs.Prelude.{slice_get}
 use Rattle.std.specs.List.{cons_option, slice_index_or}

@@ -4,7 +4,6 @@ use Rattle.std.specs.Prelude.{slice_get}
 use Rattle.std.specs.List.{sum_by, cons_option}
 use Rattle.std.specs.declared.option.Option.{Option}
 use Rattle.std.proofs.lemmas.List.Sums.{sum_by-cons}
-use Rattle.std.proofs.lemmas.Option.{same_Some}
 use Rattle.scan_bits.specs.Words.{bits_of}
 use Rattle.part_model.specs.Parts.{DeviceType, width, longest}
 use Rattle.part_model.specs.Sound.{IsSoundPart}
