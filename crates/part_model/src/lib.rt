@@ -11,6 +11,7 @@ ghost use Rattle.part_model.specs.Demo.{demo_plan, demo_part};
 mod codes;
 mod names;
 mod part;
+mod patterns;
 mod plan;
 mod refusals;
 mod registers;

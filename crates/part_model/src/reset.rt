@@ -104,6 +104,8 @@ pub fn identified(
     named: &[DataRegister],
     reset_code: u64,
 ) -> Result<Vec<Selection>, PartRefusal>
+    requires lengths { plans.code_refusal plan ≡ None }
+    requires patterns { plans.all_have_patterns plan.opcodes ≡ true }
     requires few { length named.now < 2 ^ 32 - 4 }
     requires named { parts.named_of named.now ≡ plans.named_registers plan.access }
     requires reset { bits_of plan.ir_len reset_code ≡ plans.reset_of plan.idcode plan.ir_len plan.opcodes }
@@ -122,7 +124,7 @@ pub fn identified(
         access,
         boundary: _,
     } = plan;
-    let found = selections(alloc, opcodes.into_vec(), access.as_slice(), named)?;
+    let found = selections(alloc, ir_len, opcodes.into_vec(), access.as_slice(), named)?;
     let Some(pattern) = idcode else {
         return Ok(found);
     };
