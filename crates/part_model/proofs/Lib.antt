@@ -1,7 +1,6 @@
 pub mod Bypass
 pub mod PackLaws
 pub mod MaskLaws
-pub mod MatchLaws
 pub mod PlaceLaws
 pub mod ResetLaws
 pub mod NumberLaws

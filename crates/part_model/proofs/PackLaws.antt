@@ -1,6 +1,6 @@
 -- Patterns of digits in words, and their words again.
-use Rattle.std.proofs.Common.{◌≡◌, ℕ, zero, suc, ◌+◌, ◌*◌, ◌/◌, ◌%◌, ◌^◌, ◌-◌, ◌<◌, ◌≤◌, ◌==◌, Bool, List, [], ◌∷◌, ◌++◌, length, map, append_assoc, append-nil, subst, refl, sym, ap, ◌∙◌, arith}
-use Rattle.std.proofs.Math.Nat.{pow-suc, pow-le-pow_right}
+use Rattle.std.proofs.Common.{◌≡◌, ℕ, zero, suc, ◌+◌, ◌*◌, ◌/◌, ◌%◌, ◌^◌, ◌-◌, ◌<◌, ◌≤◌, ◌==◌, Bool, List, [], ◌∷◌, ◌++◌, length, map, append_assoc, subst, refl, sym, ap, ◌∙◌, arith}
+use Rattle.std.proofs.Math.Nat.{pow-suc}
 use Rattle.std.proofs.lemmas.Nat.{and_block, and_le_l, and_le_r}
 use Rattle.std.specs.Int.RustNames.{bit_and}
 use Rattle.scan_bits.specs.Words.{bits_of, bit_value}
@@ -91,15 +91,6 @@ pub record Packing (digits rest : List Digit) (cares ones : ℕ) : Type 0 where
   pub whole : rest ++ digits_of (length digits - length rest) cares ones ≡ digits
   pub packed : IsPacked (length digits - length rest) cares ones
 
-pub nothing_packed : (digits : List Digit) → Packing digits digits 0 0
-nothing_packed digits =
-    let none : length digits - length digits ≡ 0 = omega arith in
-    record {
-      most = omega arith;
-      whole = ap (λ count. digits ++ digits_of count 0 0) none ∙ append-nil digits;
-      packed = subst (λ count. IsPacked count 0 0) (sym none) (record { cares_fit = omega arith; ones_care = refl });
-    }
-
 pub one_packed : (digits rest : List Digit) (cares ones : ℕ) (digit : Digit) (lower : List Digit) → Packing digits rest cares ones → rest ≡ lower ++ digit ∷ [] → length lower + 1 ≡ length rest
     → Packing digits lower (bit_value (is_stated digit) + 2 * cares) (bit_value (is_one digit) + 2 * ones)
 one_packed digits rest cares ones digit lower packing last longer =
@@ -112,15 +103,3 @@ one_packed digits rest cares ones digit lower packing last longer =
           ∙ sym (append_assoc lower (digit ∷ []) kept) ∙ ap (λ front. front ++ kept) (sym last) ∙ packing.whole;
       packed = subst (λ count. IsPacked count (bit_value (is_stated digit) + 2 * cares) (bit_value (is_one digit) + 2 * ones)) (sym more) (care_below digit (length digits - length rest) cares ones packing.packed);
     }
-
-pub all_packed : (digits rest : List Digit) (cares ones count : ℕ) → Packing digits rest cares ones → length rest ≡ 0 → length digits ≡ count → (digits_of count cares ones ≡ digits) × IsPacked count cares ones
-all_packed digits [] cares ones count packing none long =
-    let all : length digits - 0 ≡ count = omega (arith, long) in
-    (ap (λ n. digits_of n cares ones) (sym all) ∙ packing.whole, subst (λ n. IsPacked n cares ones) all packing.packed)
-all_packed digits (digit ∷ rest) cares ones count packing none long = absurd (omega (arith, none))
-
--- with fewer than 64 digits there is room for one more
-pub room_for_one : (digits rest : List Digit) (cares ones : ℕ) → Packing digits rest cares ones → length digits ≤ 64 → 0 < length rest → (cares < 2 ^ 63) × (ones < 2 ^ 63)
-room_for_one digits rest cares ones packing few some =
-    let power : 2 ^ (length digits - length rest) ≤ 2 ^ 63 = pow-le-pow_right {n = 2} (omega arith) {i = length digits - length rest} {j = 63} (omega (arith, few, some)) in
-    (omega (arith, packing.packed.cares_fit, power), omega (arith, ones_fit (length digits - length rest) cares ones packing.packed, power))

@@ -1,5 +1,6 @@
 -- A register that an access names is a standard one or one of the named registers.
-use Rattle.std.proofs.Common.{◌≡◌, ◌==◌, ℕ, suc, ◌<◌, Bool, true, false, ◌||◌, if◌then◌else◌, ◌⊎◌, inl, inr, List, [], ◌∷◌, ◌++◌, length, refl, sym, subst, ◌∙◌, arith}
+use Rattle.std.proofs.Common.{◌≡◌, ◌==◌, nat_eq, ℕ, suc, ◌<◌, Bool, true, false, ◌&&◌, ◌||◌, if◌then◌else◌, ◌⊎◌, inl, inr, List, [], ◌∷◌, ◌++◌, length, refl, sym, subst, ap, ◌∙◌, arith}
+use Rattle.std.specs.Cmp.Lexicographic.{pointwise}
 use Rattle.std.specs.declared.option.Option.{Option}
 use Rattle.std.specs.declared.option.Option.TheVariants.{Some}
 use Rattle.std.proofs.lemmas.Bool.{and_parts, and_from, or_cases, or_left, or_right, eqb-true, eq-eqb, cases_Bool}
@@ -23,6 +24,13 @@ same_self (x ∷ xs) = and_from (x == x) (same_name xs xs) (eq-eqb x x refl) (sa
 
 turned : (xs ys : List ℕ) → same_name xs ys ≡ true → same_name ys xs ≡ true
 turned xs ys is = subst (λ (zs : List ℕ). same_name zs xs ≡ true) (same_is xs ys is) (same_self xs)
+
+-- the names are equal where their bytes are
+pub equal_bytes : (xs ys : List ℕ) → pointwise nat_eq xs ys ≡ same_name xs ys
+equal_bytes [] [] = refl
+equal_bytes [] (y ∷ ys) = refl
+equal_bytes (x ∷ xs) [] = refl
+equal_bytes (x ∷ xs) (y ∷ ys) = ap (λ rest. (x == y) && rest) (equal_bytes xs ys)
 
 -- ---- the place of a name
 

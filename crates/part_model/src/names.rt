@@ -10,21 +10,7 @@ use std::alloc::{AllocError, Global};
 pub fn same_name(left: &[u8], right: &[u8]) -> bool
     ensures { result ≡ parts.same_name left.now right.now }
 {
-    let mut rest = left;
-    let mut other = right;
-    loop {
-        let Some((x, more)) = rest.split_first() else {
-            return other.is_empty();
-        };
-        let Some((y, others)) = other.split_first() else {
-            return false;
-        };
-        if *x != *y {
-            return false;
-        }
-        rest = more;
-        other = others;
-    }
+    left == right
 }
 
 // The bytes of a name.

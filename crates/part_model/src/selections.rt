@@ -75,10 +75,12 @@ fn first_match<'a>(opcodes: &'a [Selection], count: u32, code: u64) -> Option<&'
     ensures is { option_map (λ found. parts.instruction_of found.now) result ≡ parts.first_match (parts.instructions_of opcodes.now) (bits_of count code) }
     ensures within { (bound : ℕ) → parts.all_below bound opcodes.now ≡ true → IfSome result (λ found. found.now.register < bound) }
 {
-    for opcode in opcodes {
+    let mut rest = opcodes;
+    while let Some((opcode, others)) = rest.split_first() {
         if opcode.patterns.any_matches(count, code) {
             return Some(opcode);
         }
+        rest = others;
     }
     None
 }

@@ -2,9 +2,11 @@
 ghost use Rattle.std.specs.Prelude.{◌≡◌, ◌<◌, true, length, IfOk};
 ghost use Rattle.part_model.specs.Plans as plans;
 
+use crate::patterns::CodePattern;
 use crate::{Digit, Field, Opcode, Part, PartPlan, PartRefusal, Pattern};
 use base_types::{Items, Text};
 use std::alloc::{AllocError, Global};
+use std::test::Fail;
 
 fn pattern(alloc: Global, digits: &[Digit]) -> Result<Pattern, AllocError> {
     let digits = Vec::from_slice(alloc, digits)?;
@@ -64,5 +66,54 @@ fn captured_zeros_are_refused(rt: HostRuntime) -> Result<(), PartRefusal> {
     };
     let plan = small_plan(alloc, Digit::Zero)?;
     assert!(rt; Part::new(alloc, plan).is_err_and(|refusal| refusal == refused));
+    Ok(())
+}
+
+// The pattern of 64 digits that are X but for one.
+fn with_digit(place: usize, digit: Digit) -> CodePattern
+    requires { place < 64 }
+{
+    let mut digits = [Digit::Any; 64];
+    digits[place] = digit;
+    CodePattern::pack(64, &digits)
+}
+
+// Whether 0, 1 and X at a place match as they are to: the bit at that place alone, and all bits but that one.
+fn matches_at(place: usize, bit: u64) -> bool
+    requires { place < 64 }
+{
+    let zero = with_digit(place, Digit::Zero);
+    let one = with_digit(place, Digit::One);
+    let any = with_digit(place, Digit::Any);
+    if !zero.matches(64, 0) || !zero.matches(64, !bit) || zero.matches(64, bit) {
+        return false;
+    }
+    if !one.matches(64, bit) || !one.matches(64, u64::MAX) || one.matches(64, !bit) {
+        return false;
+    }
+    any.matches(64, bit) && any.matches(64, !bit)
+}
+
+#[test]
+fn a_stated_digit_is_compared_alone(rt: HostRuntime) -> Result<(), Fail> {
+    assert!(rt; matches_at(0, 0x1));
+    assert!(rt; matches_at(31, 0x8000_0000));
+    assert!(rt; matches_at(32, 0x1_0000_0000));
+    assert!(rt; matches_at(63, 0x8000_0000_0000_0000));
+    Ok(())
+}
+
+// 1X01
+#[test]
+fn a_short_pattern_matches_codes_of_its_length(rt: HostRuntime) -> Result<(), Fail> {
+    let pattern = CodePattern::pack(4, &[Digit::One, Digit::Zero, Digit::Any, Digit::One]);
+    assert!(rt; pattern.matches(4, 0b1001));
+    assert!(rt; pattern.matches(4, 0b1101));
+    assert!(rt; !pattern.matches(4, 0b1000));
+    assert!(rt; !pattern.matches(4, 0b1011));
+    assert!(rt; !pattern.matches(4, 0b0001));
+    assert!(rt; pattern.matches(4, 0b110_1001));
+    assert!(rt; !pattern.matches(5, 0b1001));
+    assert_eq!(rt; pattern.code(), 0b1001);
     Ok(())
 }
