@@ -80,7 +80,7 @@ masked (suc count) cares ones code fits =
 
 -- ---- patterns in words
 
-pub words_match : (count cares ones : ℕ) (digits : List Digit) (wanted code : ℕ) → IsPacked count cares ones → digits_of count cares ones ≡ digits → count ≡ wanted → (bit_and (bit_xor code ones) cares == 0) ≡ matches digits (bits_of wanted code)
+words_match : (count cares ones : ℕ) (digits : List Digit) (wanted code : ℕ) → IsPacked count cares ones → digits_of count cares ones ≡ digits → count ≡ wanted → (bit_and (bit_xor code ones) cares == 0) ≡ matches digits (bits_of wanted code)
 words_match count cares ones digits wanted code packed are same = sym (masked count cares ones code packed.cares_fit) ∙ (λ i. matches (are i) (bits_of (same i) code))
 
 differ : (pattern : List Digit) (bits : List Bool) → (length pattern ≡ length bits → ⊥) → matches pattern bits ≡ false
@@ -90,7 +90,7 @@ differ (digit ∷ digits) [] others = refl
 differ (digit ∷ digits) (bit ∷ bits) others = and_right (digit_matches digit bit) (matches digits bits) (differ digits bits (λ e. others (ap suc e)))
 
 -- a pattern of another length matches no code
-pub lengths_differ : (count cares ones : ℕ) (digits : List Digit) (wanted code : ℕ) → digits_of count cares ones ≡ digits → (count ≡ wanted → ⊥) → (count == wanted) ≡ matches digits (bits_of wanted code)
+lengths_differ : (count cares ones : ℕ) (digits : List Digit) (wanted code : ℕ) → digits_of count cares ones ≡ digits → (count ≡ wanted → ⊥) → (count == wanted) ≡ matches digits (bits_of wanted code)
 lengths_differ count cares ones digits wanted code are others =
     let long : length digits ≡ count = ap length (sym are) ∙ count_is count cares ones in
     let none : matches digits (bits_of wanted code) ≡ false = differ digits (bits_of wanted code) (λ e. others (sym long ∙ e ∙ length-bits_of wanted code)) in
@@ -98,6 +98,19 @@ lengths_differ count cares ones digits wanted code are others =
       | inl both ↦ absurd (others both.1)
       | inr both ↦ both.0 ∙ sym none
     ]
+
+-- where the words agree the lengths decide
+pub agreeing_words : (count cares ones : ℕ) (digits : List Digit) (wanted code : ℕ) → IsPacked count cares ones → digits_of count cares ones ≡ digits → bit_and (bit_xor code ones) cares ≡ 0 → (count == wanted) ≡ matches digits (bits_of wanted code)
+agreeing_words count cares ones digits wanted code packed are agree = elim (eqb_tells count wanted) [
+  | inl same ↦ same.0 ∙ sym (ap (λ n. n == 0) agree) ∙ words_match count cares ones digits wanted code packed are same.1
+  | inr other ↦ lengths_differ count cares ones digits wanted code are other.1
+]
+
+pub differing_words : (count cares ones : ℕ) (digits : List Digit) (wanted code : ℕ) → IsPacked count cares ones → digits_of count cares ones ≡ digits → (bit_and (bit_xor code ones) cares ≡ 0 → ⊥) → (bit_and (bit_xor code ones) cares == 0) ≡ matches digits (bits_of wanted code)
+differing_words count cares ones digits wanted code packed are others = elim (eqb_tells count wanted) [
+  | inl same ↦ words_match count cares ones digits wanted code packed are same.1
+  | inr other ↦ sym (unequal (bit_and (bit_xor code ones) cares) 0 others) ∙ sym other.0 ∙ lengths_differ count cares ones digits wanted code are other.1
+]
 
 pattern_ones : (digits : List Digit) → map is_one digits ≡ bits_of_pattern digits
 pattern_ones [] = refl

@@ -35,12 +35,6 @@ bits_of_pattern (One ∷ digits) = true ∷ bits_of_pattern digits
 bits_of_pattern (Zero ∷ digits) = false ∷ bits_of_pattern digits
 bits_of_pattern (Any ∷ digits) = false ∷ bits_of_pattern digits
 
--- a digit as a number, X read as 0
-abbrev pub digit_value : Digit → ℕ
-digit_value One = 1
-digit_value Zero = 0
-digit_value Any = 0
-
 -- the name is one of these
 abbrev pub is_listed : List ℕ → List (List ℕ) → Bool
 is_listed name names = list_any (same_name name) names

@@ -74,7 +74,7 @@ impl CodePattern {
     pub fn matches(&self, count: u32, code: u64) -> bool
         ensures { result ≡ parts.matches self.now (bits_of count code) }
     {
-        self.count == count && (code ^ self.ones) & self.cares == 0
+        (code ^ self.ones) & self.cares == 0 && self.count == count
     }
 
     // The code of the pattern, X read as 0.

@@ -11,13 +11,13 @@ use crate::{Digit, Field};
 use base_types::Text;
 use std::alloc::Global;
 
-pub fn refuse(cause: u8, field: Field) -> Option<PlanRefusal>
+fn refuse(cause: u8, field: Field) -> Option<PlanRefusal>
     ensures { result ≡ plans.refuse cause field }
 {
     Some(PlanRefusal { cause, field })
 }
 
-pub fn refuse_if(test: bool, cause: u8, field: Field) -> Option<PlanRefusal>
+fn refuse_if(test: bool, cause: u8, field: Field) -> Option<PlanRefusal>
     ensures { result ≡ plans.refuse_if test cause field }
 {
     if test { refuse(cause, field) } else { None }

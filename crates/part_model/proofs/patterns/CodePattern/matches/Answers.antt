@@ -1,8 +1,8 @@
-use Rattle.part_model.proofs.MaskLaws.{words_match, lengths_differ}
+use Rattle.part_model.proofs.MaskLaws.{agreeing_words, differing_words}
 use Rattle.part_model.proofs.patterns.CodePattern.matches.Goals as goal
 
-pub returns-then-self-count : goal.returns-then-self-count
-returns-then-self-count c = words_match c.self.inside.count c.self.inside.cares c.self.inside.ones c.args.self.now c.args.count c.args.code c.self.invariant c.self.view_is c.if-self-count.true
+pub returns-then-code-self-eq0 : goal.returns-then-code-self-eq0
+returns-then-code-self-eq0 c = agreeing_words c.self.inside.count c.self.inside.cares c.self.inside.ones c.args.self.now c.args.count c.args.code c.self.invariant c.self.view_is c.if-code-self-eq0.true
 
-pub returns-else-self-count : goal.returns-else-self-count
-returns-else-self-count c = lengths_differ c.self.inside.count c.self.inside.cares c.self.inside.ones c.args.self.now c.args.count c.args.code c.self.view_is c.if-self-count.false
+pub returns-else-code-self-eq0 : goal.returns-else-code-self-eq0
+returns-else-code-self-eq0 c = differing_words c.self.inside.count c.self.inside.cares c.self.inside.ones c.args.self.now c.args.count c.args.code c.self.invariant c.self.view_is c.if-code-self-eq0.false
