@@ -8,7 +8,7 @@ use Rattle.std.proofs.lemmas.List.{map-set, take_all, length-replicate, length-m
 use Rattle.std.proofs.Math.Seq.{map-set_same}
 use Rattle.scan_bits.specs.BitLists.{BitList}
 use Rattle.scan_bits.specs.Words.{bits_of, number_of}
-use Rattle.scan_bits.specs.Registers.{bit_at}
+use Rattle.scan_bits.specs.Registers.{bit_at, shifted_all}
 use Rattle.scan_bits.proofs.WordLaws.{length-bits_of, bits_of-number_of, bits_of-zero}
 use Rattle.part_model.specs.Parts.{DeviceType, NamedRegister, Register, numbered, named_length, length_of, longest_named, has_latch, register_count}
 use Rattle.part_model.specs.Parts.Register.{Bypass, Boundary, Idcode, Usercode, Named}
@@ -16,7 +16,10 @@ use Rattle.part_model.specs.Plans.{IsPart, code_refusal}
 use Rattle.part_model.proofs.ResetLaws.{coded, first_none}
 use Rattle.chain_model.specs.Chains.{ChainState, Content, DeviceState, Placed, latch_of, captured_by, code_or_zeros, zero_latches, powered_device}
 use Rattle.chain_model.specs.Cycles.{latched}
+use Rattle.chain_model.specs.declared.data_stage.DataStage.{DataStage}
+use Rattle.chain_model.specs.DataStages.{held_stage}
 use Rattle.chain_model.specs.Devices.{bits_in, zero_latch, latch_lengths, latch_rooms, named_lengths, stage_room, content_of, HasLatches, Sizes}
+use Rattle.chain_model.proofs.Staged.{all_came, held_there}
 
 pub numbered_named : (reg : ℕ) → 4 ≤ reg → numbered reg ≡ Named (reg - 4)
 numbered_named zero le = absurd (omega (arith, le))
@@ -146,7 +149,7 @@ stage_holds part (Named at) = omega (arith, longest_at part.named at)
 
 -- ---- the device as it is seen
 
-pub recaptured : (part : DeviceType) (ir dr pins boundary cleared new : BitList) (named : List BitList) (n v : ℕ) → Sizes part ir dr pins boundary named
+pub recaptured : (part : DeviceType) (ir : BitList) (dr : DataStage) (pins boundary cleared new : BitList) (named : List BitList) (n v : ℕ) → Sizes part ir dr pins boundary named
     → cleared ≡ record { bits = []; room = ir.room } → n ≡ part.ir_length → new ≡ record cleared { bits = cleared.bits ++ bits_of n v } → Sizes part new dr pins boundary named
 recaptured part ir dr pins boundary cleared new named n v sizes cleared_is n_is is =
     let new_is : new ≡ record { bits = bits_of n v; room = ir.room } = is ∙ (λ i. record { bits = (cleared_is i).bits ++ bits_of n v; room = (cleared_is i).room }) in
@@ -155,16 +158,18 @@ recaptured part ir dr pins boundary cleared new named n v sizes cleared_is n_is 
       ir_length = ap (λ (list : BitList). length list.bits) new_is ∙ length-bits_of n v ∙ n_is;
       ir_room = ap (λ (list : BitList). list.room) new_is ∙ sizes.ir_room;
       dr_room = sizes.dr_room;
+      standing = sizes.standing;
       pins_length = sizes.pins_length;
       latches = sizes.latches;
     }
 
-pub cleared_stage : (part : DeviceType) (ir dr pins boundary new : BitList) (named : List BitList) → Sizes part ir dr pins boundary named → new ≡ record { bits = []; room = dr.room } → Sizes part ir new pins boundary named
-cleared_stage part ir dr pins boundary new named sizes is = record {
+pub cleared_stage : (part : DeviceType) (ir : BitList) (dr new : DataStage) (pins boundary : BitList) (named : List BitList) → Sizes part ir dr pins boundary named → new ≡ held_stage [] dr.came.room → Sizes part ir new pins boundary named
+cleared_stage part ir dr new pins boundary named sizes is = record {
   ir_few = sizes.ir_few;
   ir_length = sizes.ir_length;
   ir_room = sizes.ir_room;
-  dr_room = ap (λ (list : BitList). list.room) is ∙ sizes.dr_room;
+  dr_room = ap (λ (stage : DataStage). stage.came.room) is ∙ sizes.dr_room;
+  standing = held_there new [] dr.came.room pins named is (omega arith);
   pins_length = sizes.pins_length;
   latches = sizes.latches;
 }
@@ -193,7 +198,7 @@ few_bits part is =
 pub zeros_fit : (part : DeviceType) (boundary : BitList) (named : List BitList) → boundary ≡ record { bits = replicate part.boundary_length false; room = part.boundary_length }
     → named ≡ map zero_latch part.named → HasLatches part boundary named
 zeros_fit part boundary named boundary_is named_is = record {
-  boundary_length = ap (λ (list : BitList). length list.bits) boundary_is ∙ length-replicate part.boundary_length false;
+  boundary_length = omega (arith, ap (λ (list : BitList). length list.bits) boundary_is, length-replicate part.boundary_length false);
   boundary_room = ap (λ (list : BitList). list.room) boundary_is;
   lengths = ap latch_lengths named_is ∙ zero_lengths part.named;
   rooms = ap latch_rooms named_is ∙ zero_rooms part.named;
@@ -203,10 +208,12 @@ zero_bits : (registers : List NamedRegister) → map bits_in (map zero_latch reg
 zero_bits [] = refl
 zero_bits (register ∷ registers) = ap (λ (l : List (List Bool)). replicate register.length false ∷ l) (zero_bits registers)
 
-pub powered_seen : (part : DeviceType) (placed : Placed) (code pins : List Bool) (ir dr boundary : BitList) (named : List BitList) → part ≡ placed.part → code ≡ part.reset_code
-    → ir.bits ≡ replicate part.ir_length false → dr.bits ≡ [] → pins ≡ placed.pins → boundary.bits ≡ replicate part.boundary_length false → named ≡ map zero_latch part.named
-    → seen part code ir.bits dr.bits (content_of pins boundary.bits named 0 0) ≡ powered_device placed
-powered_seen part placed code pins ir dr boundary named part_is code_is ir_is dr_is pins_are boundary_is named_is =
+pub powered_seen : (part : DeviceType) (placed : Placed) (code pins dr : List Bool) (ir boundary : BitList) (named : List BitList) → part ≡ placed.part → code ≡ part.reset_code
+    → ir.bits ≡ replicate part.ir_length false → dr ≡ [] → pins ≡ placed.pins → length pins ≡ part.boundary_length → boundary.bits ≡ replicate part.boundary_length false → named ≡ map zero_latch part.named
+    → seen part code ir.bits dr (content_of pins boundary.bits named 0 0) ≡ powered_device placed
+powered_seen part placed code pins dr ir boundary named part_is code_is ir_is dr_is pins_are long boundary_is named_is =
     let latches : map bits_in named ≡ zero_latches part.named = ap (map bits_in) named_is ∙ zero_bits part.named in
-    (λ i. seen part (code_is i) (ir_is i) (dr_is i) (record { pins = pins_are i; boundary = boundary_is i; named = latches i; captures = 0; updates = 0 }))
+    let zeros : shifted_all pins boundary.bits ≡ replicate part.boundary_length false
+    = all_came pins boundary.bits (ap (λ (bits : List Bool). length bits) boundary_is ∙ length-replicate part.boundary_length false ∙ sym long) ∙ boundary_is in
+    (λ i. seen part (code_is i) (ir_is i) (dr_is i) (record { pins = pins_are i; boundary = zeros i; named = latches i; captures = 0; updates = 0 }))
     ∙ ap (λ (p : DeviceType). powered_device (record { part = p; pins = placed.pins })) part_is

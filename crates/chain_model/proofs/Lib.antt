@@ -10,3 +10,4 @@ pub mod Wires
 pub mod Tape
 pub mod ShiftRuns
 pub mod Pins
+pub mod Staged

@@ -9,7 +9,9 @@ use Rattle.scan_bits.specs.Registers.{bit_at, shifted_all, shifted_out}
 use Rattle.part_model.specs.declared.Net.{Net}
 use Rattle.part_model.specs.Parts.{DeviceType, NamedRegister, Register, selected, width, longest}
 use Rattle.part_model.specs.Parts.Register.{Boundary}
+use Rattle.chain_model.specs.declared.data_stage.DataStage.{DataStage}
 use Rattle.chain_model.specs.Chains.{Content, DeviceState, driven_by}
+use Rattle.chain_model.specs.DataStages.{IsStanding}
 
 abbrev pub bits_in : BitList → List Bool
 bits_in list = list.bits
@@ -18,9 +20,9 @@ bits_in list = list.bits
 abbrev pub zero_latch : NamedRegister → BitList
 zero_latch register = record { bits = replicate register.length false; room = register.length }
 
--- the content of these lists
+-- the content of these lists: the latch of the boundary register is kept as what its last scan shifted in behind the pins
 abbrev pub content_of : List Bool → List Bool → List BitList → ℕ → ℕ → Content
-content_of pins boundary named captures updates = record { pins = pins; boundary = boundary; named = map bits_in named; captures = captures; updates = updates }
+content_of pins shifted named captures updates = record { pins = pins; boundary = shifted_all pins shifted; named = map bits_in named; captures = captures; updates = updates }
 
 -- how long the latches are, how much room they have, and how long the named registers are
 abbrev pub latch_lengths : List BitList → List ℕ
@@ -36,19 +38,20 @@ named_lengths registers = map (λ register. register.length) registers
 abbrev pub stage_room : DeviceType → ℕ
 stage_room part = max 32 (longest part)
 
--- each latch is as long as its register, with room for no more
+-- each named latch is as long as its register, no more was shifted in behind the pins than they are, and there is room for no more
 pub record HasLatches (part : DeviceType) (boundary : BitList) (named : List BitList) : Type 0 where
-  pub boundary_length : length boundary.bits ≡ part.boundary_length
+  pub boundary_length : length boundary.bits ≤ part.boundary_length
   pub boundary_room : boundary.room ≡ part.boundary_length
   pub lengths : latch_lengths named ≡ named_lengths part.named
   pub rooms : latch_rooms named ≡ named_lengths part.named
 
 -- how long the registers of a device are, and how much room there is
-pub record Sizes (part : DeviceType) (ir_stage dr_stage pins boundary : BitList) (named : List BitList) : Type 0 where
+pub record Sizes (part : DeviceType) (ir_stage : BitList) (dr_stage : DataStage) (pins boundary : BitList) (named : List BitList) : Type 0 where
   pub ir_few : part.ir_length ≤ 64
   pub ir_length : length ir_stage.bits ≡ part.ir_length
   pub ir_room : ir_stage.room ≡ part.ir_length
-  pub dr_room : dr_stage.room ≡ stage_room part
+  pub dr_room : dr_stage.came.room ≡ stage_room part
+  pub standing : IsStanding dr_stage pins named
   pub pins_length : length pins.bits ≡ part.boundary_length
   pub latches : HasLatches part boundary named
 

@@ -2,6 +2,7 @@ pub mod Chains
 pub mod Cycles
 pub mod Cables
 pub mod Demo
+pub mod DataStages
 pub mod Devices
 pub mod Boards
 pub mod Circuits

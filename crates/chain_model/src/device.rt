@@ -6,11 +6,14 @@ ghost use Rattle.part_model.specs.Parts.{numbered, width, drives};
 ghost use Rattle.chain_model.specs.Chains.{ChainState, latch_of, powered_device, reset_device};
 ghost use Rattle.chain_model.specs.Cycles.{capture_device, update_device, capture_ir, update_ir, reset_code};
 ghost use Rattle.chain_model.specs.Boards.{HasPins, placed};
+ghost use Rattle.chain_model.specs.DataStages.{staged, Stands, SameCapture};
 ghost use Rattle.chain_model.specs.Devices.{StageFits, put_where, wired_device};
 
 use crate::cable::Board;
+use crate::data_stage::{DataStage, lowest, shift};
 use crate::registers::{
-    BOUNDARY, bit_or_zero, capture_register, counted_scan, latch_bit, latch_register, zero_latches,
+    BOUNDARY, bit_or_zero, boundary_bit, capture_register, counted_scan, latch_bit, latch_register,
+    zero_latches,
 };
 use part_model::{Part, RegNo};
 use scan_bits::Bits;
@@ -23,7 +26,7 @@ pub struct Device {
     part: Part,
     code: u64,
     ir_stage: Bits,
-    dr_stage: Bits,
+    dr_stage: DataStage,
     pins: Bits,
     boundary: Bits,
     named: Vec<Bits>,
@@ -34,6 +37,7 @@ pub struct Device {
 impl Model for Device {
     ghost use Rattle.scan_bits.specs.Words.{bits_of};
     ghost use Rattle.chain_model.specs.Chains.{DeviceState};
+    ghost use Rattle.chain_model.specs.DataStages.{stage_bits};
     ghost use Rattle.chain_model.specs.Devices.{Sizes, content_of};
 
     ghost Value = { DeviceState };
@@ -42,46 +46,11 @@ impl Model for Device {
       part = d.part;
       code = bits_of d.part.ir_length d.code;
       ir_stage = d.ir_stage.bits;
-      dr_stage = d.dr_stage.bits;
+      dr_stage = stage_bits d.dr_stage d.pins d.named.items;
       content = content_of d.pins.bits d.boundary.bits d.named.items d.captures d.updates;
     } };
 
     ghost invariant = { λ d. Sizes d.part d.ir_stage d.dr_stage d.pins d.boundary d.named.items };
-}
-
-// A shift of a stage: its lowest bit leaves, or the one that comes in where it has none.
-fn shift(stage: &mut Bits, tdi: bool) -> bool
-    ensures out { result ≡ lowest_or tdi stage.old.bits }
-    ensures bits { stage.new ≡ record stage.old { bits = shifted stage.old.bits tdi } }
-{
-    if stage.len() == 0 {
-        return tdi;
-    }
-    stage.turn(tdi)
-}
-
-// A row of shifts of a stage: what leaves it, or what comes in where it has no bit.
-fn shift_word(stage: &mut Bits, n: u32, tdi: u64) -> u64
-    requires word { (1 ≤ n) × (n ≤ 64) }
-    requires bound { tdi < 2 ^ n }
-    ensures out { bits_of n result ≡ shifted_out stage.old.bits (bits_of n tdi) }
-    ensures bits { stage.new ≡ record stage.old { bits = shifted_all stage.old.bits (bits_of n tdi) } }
-    ensures bound { result < 2 ^ n }
-{
-    if stage.len() == 0 {
-        return tdi;
-    }
-    stage.turn_word(n, tdi)
-}
-
-// The bit of a stage that is nearest TDO.
-fn lowest(stage: &Bits) -> Option<bool>
-    ensures { result ≡ slice_get stage.now.bits 0 }
-{
-    if stage.len() == 0 {
-        return None;
-    }
-    Some(stage.get(0))
 }
 
 // An equal list of bits.
@@ -94,11 +63,14 @@ fn copy_bits(alloc: Global, bits: &Bits) -> Result<Bits, AllocError>
 }
 
 // Puts a captured pin value in place, where the boundary register is selected. Past the end nothing is done.
-fn put_captured(register: RegNo, stage: &mut Bits, cell: usize, bit: bool)
-    ensures { stage.new ≡ record stage.old { bits = put_where (numbered register) cell bit stage.old.bits } }
+fn put_captured(register: RegNo, stage: &mut DataStage, source: &Bits, cell: usize, bit: bool)
+    requires { Stands stage.old source.now.bits }
+    ensures bits { staged stage.new source.now.bits ≡ put_where (numbered register) cell bit (staged stage.old source.now.bits) }
+    ensures stands { Stands stage.new source.now.bits }
+    ensures same { SameCapture stage.old stage.new }
 {
-    if register == BOUNDARY && cell < stage.len() {
-        stage.set(cell, bit);
+    if register == BOUNDARY {
+        stage.put(source, cell, bit);
     }
 }
 
@@ -111,7 +83,7 @@ impl Device {
         let part = board.part.copy(alloc)?;
         let named = zero_latches(alloc, &part)?;
         let ir_stage = Bits::zeros(alloc, part.ir_len() as usize)?;
-        let dr_stage = Bits::with_room(alloc, part.longest().max(32) as usize)?;
+        let dr_stage = DataStage::with_room(alloc, part.longest().max(32) as usize)?;
         let boundary = Bits::zeros(alloc, part.len_of(BOUNDARY) as usize)?;
         let pins = copy_bits(alloc, &board.pins)?;
         Ok(Device {
@@ -145,7 +117,7 @@ impl Device {
     pub fn latch(&self, register: RegNo, at: usize) -> bool
         ensures { result ≡ bit_at (latch_of self.now.content (numbered register)) at }
     {
-        latch_bit(register, at, &self.boundary, &self.named)
+        latch_bit(register, at, &self.pins, &self.boundary, &self.named)
     }
 
     // The rising edge in Capture-DR, on a chain without nets.
@@ -169,7 +141,8 @@ impl Device {
         ensures out { result ≡ lowest_or tdi self.old.dr_stage }
         ensures after { self.new ≡ record self.old { dr_stage = shifted self.old.dr_stage tdi } }
     {
-        shift(&mut self.dr_stage, tdi)
+        let source = self.dr_stage.source(&self.pins, &self.named);
+        self.dr_stage.shift(source, tdi)
     }
 
     // A row of rising edges in Shift-DR. The answer is what leaves.
@@ -180,7 +153,8 @@ impl Device {
         ensures after { self.new ≡ record self.old { dr_stage = shifted_all self.old.dr_stage (bits_of n tdi) } }
         ensures bound { result < 2 ^ n }
     {
-        shift_word(&mut self.dr_stage, n, tdi)
+        let source = self.dr_stage.source(&self.pins, &self.named);
+        self.dr_stage.shift_word(source, n, tdi)
     }
 
     // The falling edge in Update-DR, where a scan is open.
@@ -192,7 +166,8 @@ impl Device {
         latch_register(
             &self.part,
             register,
-            &self.dr_stage,
+            &mut self.dr_stage,
+            &self.pins,
             &mut self.boundary,
             &mut self.named,
         );
@@ -245,7 +220,8 @@ impl Device {
     pub fn dr_bit(&self) -> Option<bool>
         ensures { result ≡ slice_get self.now.dr_stage 0 }
     {
-        lowest(&self.dr_stage)
+        let source = self.dr_stage.source(&self.pins, &self.named);
+        self.dr_stage.lowest(source)
     }
 
     // The bit of the instruction stage that is nearest TDO.
@@ -261,7 +237,7 @@ impl Device {
         ensures none { drives self.now.part self.now.code ≡ false → result ≡ None }
     {
         if self.part.drives(self.code) {
-            Some(bit_or_zero(&self.boundary, cell))
+            Some(boundary_bit(&self.pins, &self.boundary, cell))
         } else {
             None
         }
@@ -274,11 +250,12 @@ impl Device {
         bit_or_zero(&self.pins, cell)
     }
 
-    // Puts a captured pin value in place, where the boundary register is selected.
+    // Puts a captured pin value in place, where the boundary register is selected. The first after a capture copies the pins.
     pub fn put_captured(&mut self, cell: usize, bit: bool)
         ensures { self.new ≡ wired_device cell bit self.old }
     {
         let register = self.part.select(self.code);
-        put_captured(register, &mut self.dr_stage, cell, bit);
+        let source = self.dr_stage.source(&self.pins, &self.named);
+        put_captured(register, &mut self.dr_stage, source, cell, bit);
     }
 }

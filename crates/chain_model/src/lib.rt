@@ -9,6 +9,7 @@ ghost use Rattle.chain_model.specs.Cycles.{Clock, after_cycles, after_calls, ans
 mod cable;
 mod chain;
 mod circuit;
+mod data_stage;
 mod demo;
 mod device;
 mod devices;

@@ -6,7 +6,7 @@ use Rattle.chain_model.proofs.registers.latch_bit.Goals as goal
 
 pub returns-then-place-named : goal.returns-then-place-named
 returns-then-place-named c content boundary named =
-    c.bit_or_zero-then-place-named.ensures ∙ ap (λ (bits : List Bool). bit_at bits c.args.at) (ap bits_in c.index-named-place.is ∙ latch_captured content c.args.named.now c.args.register _ named (omega (arith, c.in_default)) (omega (arith, c.if-place-named.true)))
+    c.bit_or_zero.ensures ∙ ap (λ (bits : List Bool). bit_at bits c.args.at) (ap bits_in c.index-named-place.is ∙ latch_captured content c.args.named.now c.args.register _ named (omega (arith, c.in_default)) (omega (arith, c.if-place-named.true)))
 
 pub returns-else-place-named : goal.returns-else-place-named
 returns-else-place-named c content boundary named =

@@ -1,6 +1,7 @@
-use Rattle.std.proofs.Common.{ap}
-use Rattle.chain_model.specs.Devices.{bits_in, content_of}
+use Rattle.std.proofs.Common.{[]}
+use Rattle.chain_model.specs.Devices.{content_of}
 use Rattle.chain_model.proofs.Latches.{recaptured, cleared_stage, seen_as, zeros_put}
+use Rattle.chain_model.proofs.Staged.{held_bits}
 use Rattle.chain_model.proofs.device.Device.reset.Goals as goal
 
 pub invariant_of-self : goal.invariant_of-self
@@ -9,4 +10,4 @@ invariant_of-self c = cleared_stage _ _ _ _ _ _ _ (recaptured _ _ _ _ _ _ _ _ _ 
 pub returns : goal.returns
 returns c =
     rw (← c.self.view_is) (seen_as c.self.inside.part (content_of c.self.inside.pins.bits c.self.inside.boundary.bits c.self.inside.named.items c.self.inside.captures c.self.inside.updates) _ _ _ _ _ _
-    c.reset_code-self-inside.ensures.is (zeros_put _ _ _ _ _ c.clear.ensures c.ir_len.ensures.is c.push_word.ensures) (ap bits_in c.clear-2.ensures))
+    c.reset_code-self-inside.ensures.is (zeros_put _ _ _ _ _ c.clear.ensures c.ir_len.ensures.is c.push_word.ensures) (held_bits c.clear-2.new.self [] c.self.inside.dr_stage.came.room c.self.inside.pins c.self.inside.named.items c.clear-2.ensures))
