@@ -1,5 +1,5 @@
 -- The devices of a chain as they are kept: how long their registers are, and the nets between them.
-use Rattle.std.specs.Prelude.{◌≡◌, ◌≤◌, ◌-◌, ℕ, zero, suc, max, Bool, true, false, List, [], ◌∷◌, length, map, replicate, slice_set, slice_get}
+use Rattle.std.specs.Prelude.{◌≡◌, ◌≤◌, ◌<◌, ◌-◌, ℕ, zero, suc, max, Bool, true, false, List, [], ◌∷◌, length, map, replicate, slice_set, slice_get}
 use Rattle.std.specs.declared.option.Option.{Option}
 use Rattle.std.specs.declared.option.Option.TheVariants.{None, Some}
 use Rattle.tap_states.specs.declared.Tap.{Tap}
@@ -7,7 +7,7 @@ use Rattle.tap_states.specs.States.{in_dr_scan}
 use Rattle.scan_bits.specs.BitLists.{BitList}
 use Rattle.scan_bits.specs.Registers.{bit_at, shifted_all, shifted_out}
 use Rattle.part_model.specs.declared.Net.{Net}
-use Rattle.part_model.specs.Parts.{DeviceType, NamedRegister, Register, selected, width, longest}
+use Rattle.part_model.specs.Parts.{DeviceType, NamedRegister, Register, selected, width, longest, numbered, register_count}
 use Rattle.part_model.specs.Parts.Register.{Boundary}
 use Rattle.chain_model.specs.declared.data_stage.DataStage.{DataStage}
 use Rattle.chain_model.specs.Chains.{Content, DeviceState, driven_by}
@@ -54,6 +54,11 @@ pub record Sizes (part : DeviceType) (ir_stage : BitList) (dr_stage : DataStage)
   pub standing : IsStanding dr_stage pins named
   pub pins_length : length pins.bits ≡ part.boundary_length
   pub latches : HasLatches part boundary named
+
+-- the number of the register that a code selects
+pub record Selects (part : DeviceType) (code : List Bool) (reg : ℕ) : Type 0 where
+  pub is : numbered reg ≡ selected part code
+  pub there : reg < register_count part
 
 -- the data stage is as long as the selected register
 pub record StageFits (device : DeviceState) : Type 0 where

@@ -20,11 +20,13 @@ use scan_bits::Bits;
 use std::alloc::{AllocError, Global};
 use std::marker::Model;
 
-// A device. Contracts see it as the device of the definitions.
+// A device, with the registers that its code and the reset code select. Contracts see it as the device of the definitions.
 #[derive(Drop)]
 pub struct Device {
     part: Part,
     code: u64,
+    register: RegNo,
+    reset_register: RegNo,
     ir_stage: Bits,
     dr_stage: DataStage,
     pins: Bits,
@@ -38,7 +40,7 @@ impl Model for Device {
     ghost use Rattle.scan_bits.specs.Words.{bits_of};
     ghost use Rattle.chain_model.specs.Chains.{DeviceState};
     ghost use Rattle.chain_model.specs.DataStages.{stage_bits};
-    ghost use Rattle.chain_model.specs.Devices.{Sizes, content_of};
+    ghost use Rattle.chain_model.specs.Devices.{Sizes, Selects, content_of};
 
     ghost Value = { DeviceState };
 
@@ -50,7 +52,8 @@ impl Model for Device {
       content = content_of d.pins.bits d.boundary.bits d.named.items d.captures d.updates;
     } };
 
-    ghost invariant = { λ d. Sizes d.part d.ir_stage d.dr_stage d.pins d.boundary d.named.items };
+    ghost invariant = { λ d. Sizes d.part d.ir_stage d.dr_stage d.pins d.boundary d.named.items
+        × Selects d.part (bits_of d.part.ir_length d.code) d.register × Selects d.part d.part.reset_code d.reset_register };
 }
 
 // An equal list of bits.
@@ -86,8 +89,12 @@ impl Device {
         let dr_stage = DataStage::with_room(alloc, part.longest().max(32) as usize)?;
         let boundary = Bits::zeros(alloc, part.len_of(BOUNDARY) as usize)?;
         let pins = copy_bits(alloc, &board.pins)?;
+        let code = part.reset_code();
+        let register = part.select(code);
         Ok(Device {
-            code: part.reset_code(),
+            code,
+            register,
+            reset_register: register,
             part,
             ir_stage,
             dr_stage,
@@ -125,15 +132,14 @@ impl Device {
         ensures captured { (chain : ChainState) (place : ℕ) → chain.nets ≡ [] → self.new ≡ capture_device chain place self.old }
         ensures fits { StageFits self.new }
     {
-        let register = self.part.select(self.code);
         capture_register(
             &mut self.dr_stage,
             &self.part,
-            register,
+            self.register,
             &self.pins,
             &self.named,
         );
-        self.captures = counted_scan(self.captures, register);
+        self.captures = counted_scan(self.captures, self.register);
     }
 
     // The rising edge in Shift-DR. The answer is the bit that leaves.
@@ -162,16 +168,15 @@ impl Device {
         requires { StageFits self.old }
         ensures { self.new ≡ update_device self.old }
     {
-        let register = self.part.select(self.code);
         latch_register(
             &self.part,
-            register,
+            self.register,
             &mut self.dr_stage,
             &self.pins,
             &mut self.boundary,
             &mut self.named,
         );
-        self.updates = counted_scan(self.updates, register);
+        self.updates = counted_scan(self.updates, self.register);
         self.dr_stage.clear();
     }
 
@@ -197,6 +202,7 @@ impl Device {
         ensures { self.new ≡ update_ir self.old }
     {
         self.code = self.ir_stage.word(0, self.part.ir_len());
+        self.register = self.part.select(self.code);
     }
 
     // The falling edge in Test-Logic-Reset.
@@ -204,6 +210,7 @@ impl Device {
         ensures { self.new ≡ reset_code self.old }
     {
         self.code = self.part.reset_code();
+        self.register = self.reset_register;
     }
 
     // A reset by TRST.
@@ -211,6 +218,7 @@ impl Device {
         ensures { self.new ≡ reset_device self.old }
     {
         self.code = self.part.reset_code();
+        self.register = self.reset_register;
         self.ir_stage.clear();
         self.ir_stage.push_word(self.part.ir_len(), 0);
         self.dr_stage.clear();
@@ -254,8 +262,7 @@ impl Device {
     pub fn put_captured(&mut self, cell: usize, bit: bool)
         ensures { self.new ≡ wired_device cell bit self.old }
     {
-        let register = self.part.select(self.code);
         let source = self.dr_stage.source(&self.pins, &self.named);
-        put_captured(register, &mut self.dr_stage, source, cell, bit);
+        put_captured(self.register, &mut self.dr_stage, source, cell, bit);
     }
 }

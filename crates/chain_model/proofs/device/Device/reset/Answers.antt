@@ -1,11 +1,15 @@
-use Rattle.std.proofs.Common.{[]}
-use Rattle.chain_model.specs.Devices.{content_of}
+use Rattle.std.proofs.Common.{[], sym, subst}
+use Rattle.chain_model.specs.Devices.{Selects, content_of}
 use Rattle.chain_model.proofs.Latches.{recaptured, cleared_stage, seen_as, zeros_put}
 use Rattle.chain_model.proofs.Staged.{held_bits}
 use Rattle.chain_model.proofs.device.Device.reset.Goals as goal
 
 pub invariant_of-self : goal.invariant_of-self
-invariant_of-self c = cleared_stage _ _ _ _ _ _ _ (recaptured _ _ _ _ _ _ _ _ _ _ c.self.invariant c.clear.ensures c.ir_len.ensures.is c.push_word.ensures) c.clear-2.ensures
+invariant_of-self c = (
+  cleared_stage _ _ _ _ _ _ _ (recaptured _ _ _ _ _ _ _ _ _ _ c.self.invariant.0 c.clear.ensures c.ir_len.ensures.is c.push_word.ensures) c.clear-2.ensures,
+  subst (λ code. Selects c.self.inside.part code c.self.inside.reset_register) (sym c.reset_code-self-inside.ensures.is) c.self.invariant.2,
+  c.self.invariant.2,
+)
 
 pub returns : goal.returns
 returns c =
