@@ -210,30 +210,55 @@ fn board(alloc: Global, boundary: u32, user: u32) -> Result<Board, AllocError>
 }
 
 // How long BOUNDARY and USER of a device are.
-fn lengths(device: u32) -> (u32, u32)
-    ensures boundary { result.0 ≤ 97 }
-    ensures user { result.1 ≤ 131 }
-{
-    let place = device % 32;
-    (1 + place * 37 % 97, 1 + place * 53 % 131)
+#[derive(Clone, Copy, Drop)]
+struct Lengths {
+    boundary: u32,
+    user: u32,
 }
 
-fn boards(alloc: Global) -> Result<Vec<Board>, AllocError>
+// Lengths of many kinds, for 32 devices.
+fn short_lengths(alloc: Global) -> Result<Vec<Lengths>, AllocError> {
+    let mut lengths = Vec::new(alloc);
+    for place in 0..32 {
+        lengths.push(Lengths {
+            boundary: 1 + place * 37 % 97,
+            user: 1 + place * 53 % 131,
+        })?;
+    }
+    Ok(lengths)
+}
+
+// Lengths of two words and more, for three devices.
+const LONG: [Lengths; 3] = [
+    Lengths {
+        boundary: 65,
+        user: 130,
+    },
+    Lengths {
+        boundary: 130,
+        user: 200,
+    },
+    Lengths {
+        boundary: 200,
+        user: 65,
+    },
+];
+
+fn boards(alloc: Global, lengths: &[Lengths]) -> Result<Vec<Board>, AllocError>
     ensures { IfOk result (λ boards. EachHasPins boards.items) }
 {
     let mut boards = Vec::new(alloc);
-    for device in 0..32 {
-        let (boundary, user) = lengths(device);
-        boards.push(board(alloc, boundary, user)?)?;
+    for device in lengths {
+        boards.push(board(alloc, device.boundary, device.user)?)?;
     }
     Ok(boards)
 }
 
-fn plain_chain(alloc: Global) -> Result<PlainChain, AllocError> {
+fn plain_chain(alloc: Global, lengths: &[Lengths]) -> Result<PlainChain, AllocError> {
     let mut devices = Vec::new(alloc);
-    for device in 0..32 {
-        let (boundary, user) = lengths(device);
-        devices.push(PlainDevice::powered(alloc, boundary as usize, user as usize)?)?;
+    for device in lengths {
+        let (boundary, user) = (device.boundary as usize, device.user as usize);
+        devices.push(PlainDevice::powered(alloc, boundary, user)?)?;
     }
     Ok(PlainChain {
         alloc,
@@ -315,6 +340,112 @@ fn walk_words(chain: &mut Chain, plain: &mut PlainChain) -> Result<bool, AllocEr
     Ok(same_content(chain, plain))
 }
 
+// One call on both chains: whether they answer the same.
+fn both(
+    chain: &mut Chain,
+    plain: &mut PlainChain,
+    n: u32,
+    tms: u64,
+    tdi: u64,
+) -> Result<bool, AllocError>
+    requires device { HasDevice chain.old.chain }
+    requires some { 1 ≤ n }
+    requires few { n ≤ 64 }
+    ensures { HasDevice chain.new.chain }
+{
+    let word = chain.cycles(n, tms, tdi);
+    Ok(word == Ok(plain.cycles(n, tms, tdi)?))
+}
+
+// So many shifts in Shift-DR, which both chains stay in.
+fn shift_both(
+    chain: &mut Chain,
+    plain: &mut PlainChain,
+    count: u32,
+    seed: u64,
+) -> Result<bool, AllocError>
+    requires { HasDevice chain.old.chain }
+    ensures { HasDevice chain.new.chain }
+{
+    let mut left = count;
+    while left > 0 {
+        let n = left.min(64);
+        if !both(chain, plain, n, 0, mixed(seed ^ u64::from(left)))? {
+            return Ok(false);
+        }
+        left -= n;
+    }
+    Ok(true)
+}
+
+// A scan of so many shifts, from Run-Test/Idle and back to it.
+fn scan(
+    chain: &mut Chain,
+    plain: &mut PlainChain,
+    shifts: u32,
+    seed: u64,
+) -> Result<bool, AllocError>
+    requires { HasDevice chain.old.chain }
+    ensures { HasDevice chain.new.chain }
+{
+    if !both(chain, plain, 2, 0b01, 0)? {
+        return Ok(false);
+    }
+    if shifts > 0 {
+        let entered = both(chain, plain, 1, 0, 0)?;
+        if !entered || !shift_both(chain, plain, shifts - 1, seed)? {
+            return Ok(false);
+        }
+    }
+    both(chain, plain, 3, 0b011, seed % 2)
+}
+
+// The codes of three devices, from Run-Test/Idle and back to it.
+fn load(chain: &mut Chain, plain: &mut PlainChain, codes: u64) -> Result<bool, AllocError>
+    requires { HasDevice chain.old.chain }
+    ensures { HasDevice chain.new.chain }
+{
+    let entered = both(chain, plain, 4, 0b0011, 0)?;
+    let shifted = both(chain, plain, 12, 1 << 11, codes)?;
+    let left = both(chain, plain, 2, 0b01, 0)?;
+    Ok(entered && shifted && left)
+}
+
+// Scans that end before, at and behind the ends of words and registers; each reads what the one before it left.
+fn scans(chain: &mut Chain, plain: &mut PlainChain, codes: u64) -> Result<bool, AllocError>
+    requires { HasDevice chain.old.chain }
+    ensures { HasDevice chain.new.chain }
+{
+    if !load(chain, plain, codes)? {
+        return Ok(false);
+    }
+    for shifts in [
+        0, 1, 63, 64, 65, 66, 129, 130, 131, 199, 200, 201, 2, 0, 400,
+    ] {
+        let same = scan(chain, plain, shifts, mixed(codes ^ u64::from(shifts)))?;
+        if !same || !same_content(chain, plain) {
+            return Ok(false);
+        }
+    }
+    Ok(true)
+}
+
+// Scans of USER, of BOUNDARY, and of both with BYPASS between them.
+fn walk_scans(chain: &mut Chain, plain: &mut PlainChain) -> Result<bool, AllocError>
+    requires { HasDevice chain.old.chain }
+    ensures { HasDevice chain.new.chain }
+{
+    if !both(chain, plain, 1, 0, 0)? {
+        return Ok(false);
+    }
+    for codes in [0x888, 0x111, 0x818, 0x8f1, 0x108] {
+        if !scans(chain, plain, codes)? {
+            return Ok(false);
+        }
+    }
+    Ok(true)
+}
+
 // Whether the devices were captured and updated.
 fn is_used(plain: &PlainChain) -> bool {
     plain
@@ -325,13 +456,27 @@ fn is_used(plain: &PlainChain) -> bool {
 
 #[test]
 fn thirty_two_devices_are_as_defined(rt: HostRuntime) -> Result<(), Fail> {
-    let boards = boards(rt.alloc())?;
+    let lengths = short_lengths(rt.alloc())?;
+    let boards = boards(rt.alloc(), &lengths)?;
     assert_eq!(rt; boards.len(), 32);
     let mut chain = Chain::empty();
     assert!(rt; chain.assemble(rt.alloc(), boards.as_slice(), &[]).is_ok());
-    let mut plain = plain_chain(rt.alloc())?;
+    let mut plain = plain_chain(rt.alloc(), &lengths)?;
     assert!(rt; walk_words(&mut chain, &mut plain)?);
     assert!(rt; walk_edges(&mut chain, &mut plain)?);
+    assert!(rt; is_used(&plain));
+    Ok(())
+}
+
+#[test]
+fn long_registers_are_as_defined(rt: HostRuntime) -> Result<(), Fail> {
+    let boards = boards(rt.alloc(), &LONG)?;
+    assert_eq!(rt; boards.len(), 3);
+    let mut chain = Chain::empty();
+    assert!(rt; chain.assemble(rt.alloc(), boards.as_slice(), &[]).is_ok());
+    let mut plain = plain_chain(rt.alloc(), &LONG)?;
+    assert!(rt; walk_scans(&mut chain, &mut plain)?);
+    assert!(rt; walk_words(&mut chain, &mut plain)?);
     assert!(rt; is_used(&plain));
     Ok(())
 }
