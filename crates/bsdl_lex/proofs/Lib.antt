@@ -1,3 +1,4 @@
+pub mod Masks
 pub mod Reading
 pub mod Forms
 pub mod Sound

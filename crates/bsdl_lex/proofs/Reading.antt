@@ -1,11 +1,11 @@
 -- Reading tokens one after the other, as a loop does.
-use Rattle.std.proofs.Common.{◌≡◌, ℕ, zero, suc, ◌-◌, ◌+◌, ◌≤◌, ◌<◌, List, [], ◌∷◌, ◌++◌, length, drop, Result, Ok, Err, refl, sym, ap, ◌∙◌, append_assoc, arith, length-drop}
-use Rattle.std.proofs.lemmas.List.{drop-drop}
+use Rattle.std.proofs.Common.{◌≡◌, ℕ, zero, suc, ◌-◌, ◌+◌, ◌≤◌, ◌<◌, true, get_or, List, [], ◌∷◌, ◌++◌, length, drop, Result, Ok, Err, refl, sym, ap, ◌∙◌, append_assoc, arith, length-drop}
+use Rattle.std.proofs.lemmas.List.{drop-drop, drop_more}
 use Rattle.bsdl_lex.specs.declared.Token.{Token}
 use Rattle.bsdl_lex.specs.declared.TokenKind.{TokenKind}
 use Rattle.bsdl_lex.specs.declared.Piece.{Piece}
 use Rattle.bsdl_lex.specs.declared.Piece.TheVariants.{Gap, Found, Bad}
-use Rattle.bsdl_lex.specs.Tokens.{LexFault, Reaches, first_piece, size, before, lexed_from, SpansRise}
+use Rattle.bsdl_lex.specs.Tokens.{LexFault, Reaches, is_blank, first_piece, size, before, lexed_from, SpansRise}
 
 -- what was read before, and what is still read
 abbrev pub with_front : List Token → Result (List Token) LexFault → Result (List Token) LexFault
@@ -62,3 +62,11 @@ rises_further from (token ∷ tokens) most more le rises = (rises.0, rises.1, ri
 pub rises_by : (from : ℕ) (tokens : List Token) (most : ℕ) (token : Token) → most ≤ token.start → token.start < token.end → SpansRise from tokens most → SpansRise from (tokens ++ token ∷ []) token.end
 rises_by from [] most token le lt rises = (omega (arith, le, rises), lt, omega arith)
 rises_by from (first ∷ tokens) most token le lt rises = (rises.0, rises.1, rises_by first.end tokens most token le lt rises.2)
+
+-- a blank is passed over
+pub blank_passed : (front : List Token) (at : ℕ) (text : List ℕ) (total : Result (List Token) LexFault) → at < length text → is_blank (get_or text at 0) ≡ true
+    → with_front front (lexed_from at 0 (drop at text)) ≡ total → with_front front (lexed_from (at + 1) 0 (drop (at + 1) text)) ≡ total
+blank_passed front at text total lt blank so_far =
+    let e : at + 1 ≡ suc at = omega arith in
+    let one : lexed_from at 0 (get_or text at 0 ∷ drop (at + 1) text) ≡ lexed_from (at + 1) 0 (drop (at + 1) text) = rw (blank, e) refl in
+    ap (with_front front) (sym one) ∙ ap (with_front front) (ap (lexed_from at 0) (sym (drop_more text at 0 lt))) ∙ so_far

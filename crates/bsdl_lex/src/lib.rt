@@ -1,16 +1,19 @@
 //! The tokens of a BSDL text (IEEE 1149.1, Annex B): words, numbers, quoted texts and signs, without blanks and comments.
 #![tactic(auto)]
 
-ghost use Rattle.std.specs.Prelude.{◌≡◌, ◌<◌, ◌≤◌, ◌==◌, ◌+◌, ◌^◌, length, drop, IfOk, IfErr, Ok, Err, zero};
+ghost use Rattle.std.specs.Prelude.{◌≡◌, ◌<◌, ◌≤◌, ◌==◌, ◌+◌, ◌^◌, false, length, drop, IfOk, IfErr, Ok, Err, zero};
 ghost use Rattle.std.specs.List.{prefix_len};
 ghost use Rattle.bsdl_lex.specs.Tokens as t;
 ghost use Rattle.bsdl_lex.specs.Laws as l;
 ghost use Rattle.bsdl_lex.specs.declared.LexRefusal.TheVariants.{Memory};
 
+mod lanes;
 #[cfg(test)]
 mod tests;
 
+use crate::lanes::{LANES, leading};
 use std::alloc::{AllocFailed, Global};
+use std::simd::prelude::*;
 use thiserror::Error;
 
 /// What a token is.
@@ -68,7 +71,7 @@ enum Piece {
 fn is_blank(byte: u8) -> bool
     ensures { result ≡ t.is_blank byte }
 {
-    (9..=13).contains(&byte) || byte == b' '
+    matches!(byte, b' ' | 9..=13)
 }
 
 /// Whether a byte is a letter of ASCII.
@@ -120,6 +123,22 @@ fn run(class: Class, text: &[u8]) -> usize
     ensures bound { result ≤ length text.now }
 {
     let mut count = 0;
+    while text.len() - count >= LANES {
+        let more = leading(class, u8x16::from_slice(text.split_at(count).1));
+        count += more;
+        if more < LANES {
+            return count;
+        }
+    }
+    count + short_run(class, text.split_at(count).1)
+}
+
+/// The same, byte by byte: for a text of less than sixteen.
+fn short_run(class: Class, text: &[u8]) -> usize
+    ensures is { result ≡ prefix_len (t.belongs class) text.now }
+    ensures bound { result ≤ length text.now }
+{
+    let mut count = 0;
     while count < text.len() && belongs(class, text[count]) {
         count += 1;
     }
@@ -165,34 +184,23 @@ fn exponent_sign(text: &[u8]) -> usize
     }
 }
 
+/// The first piece of a text that does not begin with a blank.
 fn first_piece(text: &[u8]) -> Piece
-    requires { 0 < length text.now }
+    requires some { 0 < length text.now }
+    requires no_blank { t.starts t.is_blank text.now ≡ false }
     ensures is { result ≡ t.first_piece text.now }
     ensures bound { t.Reaches result (length text.now) }
 {
     let Some((byte, rest)) = text.split_first() else {
         return Piece::Gap(0);
     };
-    let byte = *byte;
-    if is_blank(byte) {
-        return Piece::Gap(1);
-    }
-    if byte == b'-' && starts_dash(rest) {
-        return Piece::Gap(1 + run(Class::Comment, rest));
-    }
-    if is_letter(byte) {
-        return Piece::Found(TokenKind::Word, 1 + run(Class::Word, rest));
-    }
-    if is_digit(byte) {
-        return number(rest);
-    }
-    if byte == b'"' {
-        return quoted(rest);
-    }
-    if 33 <= byte && byte <= 126 {
-        Piece::Found(TokenKind::Sign, 1)
-    } else {
-        Piece::Bad(0, 1)
+    match *byte {
+        byte if is_letter(byte) => Piece::Found(TokenKind::Word, 1 + run(Class::Word, rest)),
+        b'"' => quoted(rest),
+        byte if is_digit(byte) => number(rest),
+        b'-' if starts_dash(rest) => Piece::Gap(1 + run(Class::Comment, rest)),
+        33..=126 => Piece::Found(TokenKind::Sign, 1),
+        _ => Piece::Bad(0, 1),
     }
 }
 
@@ -324,6 +332,10 @@ fn all_tokens(alloc: Global, text: &[u8]) -> Result<Vec<Token>, LexRefusal>
     let mut found = Vec::new(alloc);
     let mut at = 0;
     while at < text.len() {
+        if is_blank(text[at]) {
+            at += 1;
+            continue;
+        }
         match first_piece(text.split_at(at).1) {
             Piece::Gap(count) => at += count,
             Piece::Found(kind, count) => {

@@ -30,6 +30,8 @@ fn refuses_at_the_first_place(rt: HostRuntime) -> Result<(), AllocError> {
         (b"1.5_0".as_slice(), 0, 3),
         (b"1e5e".as_slice(), 0, 3),
         (b"1e\x01".as_slice(), 0, 3),
+        (b"\"0123456789abcdef\x7f\"".as_slice(), 17, 1),
+        (b"a \"0123456789 ABCDEFGHIJ\tabcdefghij\n".as_slice(), 2, 2),
     ] {
         assert!(rt; refusal(alloc, text) == Some(LexRefusal::Refused { at, cause }));
     }
@@ -72,6 +74,35 @@ fn reads_the_forms(rt: HostRuntime) -> Result<(), LexRefusal> {
         (b"a --- b\rc".as_slice(), 2, TokenKind::Word, 8, 9),
         (b"5--".as_slice(), 1, TokenKind::Number, 0, 1),
         (b"a\x0b\x0cb".as_slice(), 2, TokenKind::Word, 3, 4),
+        (b"x_ABCDEFGHIJKLMN;".as_slice(), 2, TokenKind::Sign, 16, 17),
+        (
+            b"Zabcdefghijklmnopqrstuvwxyz_0123456789A".as_slice(),
+            1,
+            TokenKind::Word,
+            0,
+            39,
+        ),
+        (
+            b"12345678901234567890.5e10 ".as_slice(),
+            1,
+            TokenKind::Number,
+            0,
+            25,
+        ),
+        (
+            b"\"~ 0123456789 ABCDEFGHIJ\" !".as_slice(),
+            2,
+            TokenKind::Sign,
+            26,
+            27,
+        ),
+        (
+            b"-- 0123456789 0123456789\r;".as_slice(),
+            1,
+            TokenKind::Sign,
+            25,
+            26,
+        ),
     ] {
         let found = tokens(alloc, text)?;
         assert!(rt; found.len() == count);

@@ -1,8 +1,15 @@
-use Rattle.std.proofs.Common.{◌+◌, drop, arith}
+use Rattle.std.proofs.Common.{◌+◌, drop, sym, ◌∙◌, arith}
 use Rattle.bsdl_lex.specs.declared.Piece.TheVariants.{Gap, Found}
 use Rattle.bsdl_lex.specs.Tokens.{lexed_from}
-use Rattle.bsdl_lex.proofs.Reading.{went_on, joined, stays, rises_further, rises_by}
+use Rattle.bsdl_lex.proofs.Reading.{blank_passed, went_on, joined, stays, rises_further, rises_by}
 use Rattle.bsdl_lex.proofs.all_tokens.Goals as goal
+
+pub loop-at-preserved-then-is_blank : goal.loop-at-preserved-then-is_blank
+loop-at-preserved-then-is_blank c = (
+  omega arith,
+  rises_further 0 c.loop-at.found.items c.loop-at.at (c.loop-at.at + 1) (omega arith) c.loop-at.invariant.1,
+  blank_passed c.loop-at.found.items c.loop-at.at c.args.text.now (lexed_from 0 0 c.args.text.now) (omega arith) (sym c.is_blank.ensures ∙ c.if-is_blank.true) c.loop-at.invariant.2,
+)
 
 pub loop-at-preserved-in-Gap : goal.loop-at-preserved-in-Gap
 loop-at-preserved-in-Gap c = (

@@ -1,0 +1,9 @@
+use Rattle.std.proofs.Common.{refl}
+use Rattle.bsdl_lex.proofs.Masks.{mask_of, joined, with_splat, splat, at_most, less}
+use Rattle.bsdl_lex.proofs.lanes.digit_ends.Goals as goal
+
+pub returns : goal.returns
+returns c =
+    let v = c.args.bytes in
+    let long = c.fits-bytes.0 in
+    mask_of _ _ v _ c.fits-bytes (joined at_most _ _ v (splat v 10 long) (with_splat less v 48 long)) refl
