@@ -191,14 +191,11 @@ fn first_piece(text: &[u8]) -> Piece
     ensures is { result ≡ t.first_piece text.now }
     ensures bound { t.Reaches result (length text.now) }
 {
-    let Some((byte, rest)) = text.split_first() else {
-        return Piece::Gap(0);
-    };
-    match *byte {
-        byte if is_letter(byte) => Piece::Found(TokenKind::Word, 1 + run(Class::Word, rest)),
-        b'"' => quoted(rest),
-        byte if is_digit(byte) => number(rest),
-        b'-' if starts_dash(rest) => Piece::Gap(1 + run(Class::Comment, rest)),
+    match text[0] {
+        byte if is_letter(byte) => Piece::Found(TokenKind::Word, run(Class::Word, text)),
+        b'"' => quoted(text.split_at(1).1),
+        byte if is_digit(byte) => number(text.split_at(1).1),
+        b'-' if starts_dash(text.split_at(1).1) => Piece::Gap(run(Class::Comment, text)),
         33..=126 => Piece::Found(TokenKind::Sign, 1),
         _ => Piece::Bad(0, 1),
     }
