@@ -1,7 +1,7 @@
 -- From a mask of lanes to the run of bytes at their front.
 use Rattle.std.proofs.Common.{◌≡◌, ℕ, ◌+◌, ◌-◌, ◌%◌, ◌^◌, ◌≤◌, ◌<◌, Bool, true, not, List, [], ◌∷◌, map, length, take, drop, refl, sym, ap, ap₂, ◌∙◌, arith, w8, Fits, eqb, leb, cond, replicate, length-take, length-drop}
 use Rattle.std.proofs.Math.Bool.{not-not}
-use Rattle.std.proofs.lemmas.Bool.{agree_below, agree_below_at, eq-eqb, ne_eqb}
+use Rattle.std.proofs.lemmas.Bool.{agree_below, agree_below_at, eq-eqb, ne_eqb, cond-true, cond-false}
 use Rattle.std.proofs.lemmas.Simd.{zip2_of_maps, zip2_splat, splat_is_map, map-map, mask_l-mod, leading_from_mask_l, trailing_mask_l}
 use Rattle.std.proofs.lemmas.List.{length-map, take-append-drop, drop-drop}
 use Rattle.std.proofs.lemmas.List.Folds.{prefix_len-append}
@@ -52,12 +52,7 @@ pub some_lead : (test : ℕ → Bool) (bytes : List ℕ) (mask : ℕ) → length
 some_lead test bytes mask long is some =
     rw is (trailing_mask_l (λ byte. not (test byte)) 64 bytes (omega (arith, long)) (omega (arith, is, some)) ∙ twice test bytes)
 
--- a test of the first bytes of a text, and of those behind them
-parted : (test : ℕ → Bool) (text : List ℕ) (count : ℕ)
-    → prefix_len test text ≡ cond (eqb (prefix_len test (take count text)) (length (take count text))) (length (take count text) + prefix_len test (drop count text)) (prefix_len test (take count text))
-parted test text count = ap (prefix_len test) (sym (take-append-drop count text)) ∙ prefix_len-append test (take count text) (drop count text)
-
--- The run from `count` on in sixteen bytes of a text: so many bytes of it.
+-- Sixteen bytes of a text from `count` on, of which the first `more` go on with a run.
 module _ (test : ℕ → Bool) (text rest : List ℕ) (count more : ℕ) (is_rest : rest ≡ drop count text) (room : 16 ≤ length text - count) (is : more ≡ prefix_len test (take 16 rest)) where
   long : length (take 16 rest) ≡ 16
   long = omega (arith, length-take 16 rest, ap length is_rest, length-drop count text)
@@ -65,22 +60,24 @@ module _ (test : ℕ → Bool) (text rest : List ℕ) (count more : ℕ) (is_res
   few : more ≤ 16
   few = omega (arith, is, long, prefix_len-le-length test (take 16 rest))
 
+  run_is : prefix_len test (drop count text) ≡ cond (eqb more 16) (16 + prefix_len test (drop 16 rest)) more
+  run_is =
+      ap (prefix_len test) (sym is_rest ∙ sym (take-append-drop 16 rest)) ∙ prefix_len-append test (take 16 rest) (drop 16 rest)
+      ∙ (λ i. cond (eqb (sym is i) (long i)) (long i + prefix_len test (drop 16 rest)) (sym is i))
+
   pub step_within : count + more ≤ length text
   step_within = omega (arith, few)
 
-  -- it ends among them
+  -- the run ends among them
   pub step_ends : (total : ℕ) → count + prefix_len test (drop count text) ≡ total → more < 16 → count + more ≡ total
   step_ends total so_far lt =
-      let stops : prefix_len test rest ≡ more =
-      parted test rest 16 ∙ ap (λ b. cond b (length (take 16 rest) + prefix_len test (drop 16 rest)) (prefix_len test (take 16 rest))) (ne_eqb _ _ (λ (e : prefix_len test (take 16 rest) ≡ length (take 16 rest)). omega (arith, is, lt, long, e))) ∙ sym is in
-      ap (λ n. count + n) (sym stops ∙ ap (prefix_len test) is_rest) ∙ so_far
+      let ends : prefix_len test (drop count text) ≡ more = run_is ∙ cond-false (eqb more 16) _ _ (ne_eqb more 16 (λ e. omega (arith, lt, e))) in
+      omega (arith, ends, so_far)
 
   -- or goes on behind them
   pub step_goes_on : (total : ℕ) → count + prefix_len test (drop count text) ≡ total → 16 ≤ more → count + more + prefix_len test (drop (count + more) text) ≡ total
   step_goes_on total so_far ge =
       let all : more ≡ 16 = omega (arith, few, ge) in
-      let goes : prefix_len test rest ≡ 16 + prefix_len test (drop 16 rest) =
-      parted test rest 16 ∙ ap (λ b. cond b (length (take 16 rest) + prefix_len test (drop 16 rest)) (prefix_len test (take 16 rest))) (eq-eqb _ _ (sym is ∙ all ∙ sym long)) ∙ ap (λ n. n + prefix_len test (drop 16 rest)) long in
       let behind : drop 16 rest ≡ drop (count + 16) text = ap (drop 16) is_rest ∙ drop-drop 16 count text in
-      let sum : prefix_len test (drop count text) ≡ 16 + prefix_len test (drop (count + 16) text) = sym (ap (prefix_len test) is_rest) ∙ goes ∙ ap (λ xs. 16 + prefix_len test xs) behind in
-      rw all (omega (arith, sum, so_far))
+      let goes_on : prefix_len test (drop count text) ≡ 16 + prefix_len test (drop 16 rest) = run_is ∙ cond-true (eqb more 16) _ _ (eq-eqb more 16 all) in
+      rw (all, sym behind) (omega (arith, goes_on, so_far))

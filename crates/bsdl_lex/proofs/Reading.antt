@@ -70,3 +70,9 @@ blank_passed front at text total lt blank so_far =
     let e : at + 1 ≡ suc at = omega arith in
     let one : lexed_from at 0 (get_or text at 0 ∷ drop (at + 1) text) ≡ lexed_from (at + 1) 0 (drop (at + 1) text) = rw (blank, e) refl in
     ap (with_front front) (sym one) ∙ ap (with_front front) (ap (lexed_from at 0) (sym (drop_more text at 0 lt))) ∙ so_far
+
+-- a text with a token is not without tokens
+pub not_none : (front : List Token) (at : ℕ) (kind : TokenKind) (count : ℕ) (read total : Result (List Token) LexFault) → with_front front (before at (Found kind count) read) ≡ total → total ≡ Ok [] → ⊥
+not_none [] at kind count (Ok tokens) total so_far none = cc (so_far ∙ none)
+not_none (first ∷ front) at kind count (Ok tokens) total so_far none = cc (so_far ∙ none)
+not_none front at kind count (Err fault) total so_far none = cc (so_far ∙ none)

@@ -1,7 +1,7 @@
 //! The tokens of a BSDL text (IEEE 1149.1, Annex B): words, numbers, quoted texts and signs, without blanks and comments.
 #![tactic(auto)]
 
-ghost use Rattle.std.specs.Prelude.{◌≡◌, ◌<◌, ◌≤◌, ◌==◌, ◌+◌, ◌^◌, false, length, drop, IfOk, IfErr, Ok, Err, zero};
+ghost use Rattle.std.specs.Prelude.{◌≡◌, ◌<◌, ◌≤◌, ◌==◌, ◌+◌, ◌^◌, false, length, drop, IfOk, IfErr, IsOk, Ok, Err, [], zero};
 ghost use Rattle.std.specs.List.{prefix_len};
 ghost use Rattle.bsdl_lex.specs.Tokens as t;
 ghost use Rattle.bsdl_lex.specs.Laws as l;
@@ -305,11 +305,13 @@ fn closed(inside: usize, text: &[u8]) -> Piece
 const LONGEST: usize = 4194304;
 
 /// The tokens of a text, in order. `Refused` tells the first thing that is none, reading from the front, and a text that is too long
-/// before all others. `Memory` comes where the list of tokens finds no room, and says nothing of the text.
+/// before all others. `Memory` comes where the list of tokens finds no room, and says nothing of the text but that it is not without
+/// tokens.
 pub fn tokens(alloc: Global, text: &[u8]) -> Result<Vec<Token>, LexRefusal>
     ensures ok { IfOk result (λ found. t.lexed text.now ≡ Ok found.items) }
     ensures refused { IfErr result (λ refusal. t.RefusesAs refusal (t.lexed text.now)) }
     ensures spans { IfOk result (λ found. t.SpansRise 0 found.items (length text.now)) }
+    ensures none { t.lexed text.now ≡ Ok [] → IsOk result }
 {
     if text.len() > LONGEST {
         return Err(LexRefusal::Refused {
@@ -325,6 +327,7 @@ fn all_tokens(alloc: Global, text: &[u8]) -> Result<Vec<Token>, LexRefusal>
     ensures ok { IfOk result (λ found. t.lexed_from 0 0 text.now ≡ Ok found.items) }
     ensures refused { IfErr result (λ refusal. t.RefusesAs refusal (t.lexed_from 0 0 text.now)) }
     ensures spans { IfOk result (λ found. t.SpansRise 0 found.items (length text.now)) }
+    ensures none { t.lexed_from 0 0 text.now ≡ Ok [] → IsOk result }
 {
     let mut found = Vec::new(alloc);
     let mut at = 0;

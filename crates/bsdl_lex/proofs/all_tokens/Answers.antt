@@ -1,7 +1,7 @@
 use Rattle.std.proofs.Common.{◌+◌, drop, sym, ◌∙◌, arith}
 use Rattle.bsdl_lex.specs.declared.Piece.TheVariants.{Gap, Found}
 use Rattle.bsdl_lex.specs.Tokens.{lexed_from}
-use Rattle.bsdl_lex.proofs.Reading.{blank_passed, went_on, joined, stays, rises_further, rises_by}
+use Rattle.bsdl_lex.proofs.Reading.{blank_passed, went_on, joined, not_none, stays, rises_further, rises_by}
 use Rattle.bsdl_lex.proofs.all_tokens.Goals as goal
 
 pub loop-at-preserved-then-is_blank : goal.loop-at-preserved-then-is_blank
@@ -25,3 +25,9 @@ loop-at-preserved c = (
   rw c.in_ok-push-in-Found.ensures.items (joined c.loop-at.found.items c.in-Found.kind c.loop-at.at c.in-Found.count (lexed_from (c.loop-at.at + c.in-Found.count) 0 (drop (c.loop-at.at + c.in-Found.count) c.args.text.now)) (lexed_from 0 0 c.args.text.now)
       (went_on c.loop-at.found.items c.loop-at.at c.args.text.now c.split_at.result.1.now (Found c.in-Found.kind c.in-Found.count) (lexed_from 0 0 c.args.text.now) c.split_at.ensures.back c.in-Found.ensures.is c.in-Found.ensures.bound c.loop-at.invariant.2)),
 )
+
+pub returns-in_err-push-in-Found-clause-none : goal.returns-in_err-push-in-Found-clause-none
+returns-in_err-push-in-Found-clause-none c = λ none.
+    absurd (not_none c.loop-at.found.items c.loop-at.at c.in-Found.kind c.in-Found.count (lexed_from (c.loop-at.at + c.in-Found.count) 0 (drop (c.loop-at.at + c.in-Found.count) c.args.text.now)) (lexed_from 0 0 c.args.text.now)
+    (went_on c.loop-at.found.items c.loop-at.at c.args.text.now c.split_at.result.1.now (Found c.in-Found.kind c.in-Found.count) (lexed_from 0 0 c.args.text.now) c.split_at.ensures.back c.in-Found.ensures.is c.in-Found.ensures.bound c.loop-at.invariant.2)
+    none)
