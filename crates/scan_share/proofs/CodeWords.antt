@@ -14,7 +14,7 @@ pub record Filled {X : Type 0} (word : X → ℕ) (done : List ℕ) (xs : List X
   pub words : done ++ map word (drop at xs) ≡ map word xs
   pub count : length done ≡ at
 
-drop_at : {X : Type 0} (xs : List X) (at : ℕ) (x : X) → slice_get xs at ≡ Some x → drop at xs ≡ x ∷ drop (suc at) xs
+pub drop_at : {X : Type 0} (xs : List X) (at : ℕ) (x : X) → slice_get xs at ≡ Some x → drop at xs ≡ x ∷ drop (suc at) xs
 drop_at [] at x is = some_none x (sym is)
 drop_at (y ∷ xs) zero x is = ap (λ z. z ∷ xs) (same_Some y x is)
 drop_at (y ∷ xs) (suc at) x is = drop_at xs at x is
@@ -32,7 +32,7 @@ one_filled word done xs at x w filled is w_is = record {
     next : at + 1 ≡ suc at
     next = omega arith
 
-drop_past : {X : Type 0} (xs : List X) (at : ℕ) → length xs ≤ at → drop at xs ≡ []
+pub drop_past : {X : Type 0} (xs : List X) (at : ℕ) → length xs ≤ at → drop at xs ≡ []
 drop_past [] zero le = refl
 drop_past [] (suc at) le = refl
 drop_past (x ∷ xs) zero le = absurd (omega (arith, le))

@@ -20,7 +20,7 @@ above_none low at (place ∷ group) lt rises =
     let le : at ≤ place = rises.0 in
     rw (ne_eqb place low (λ e. omega (arith, e, le, lt))) (ap (option_map suc) (above_none low (suc place) group (omega (arith, le, lt)) rises.1))
 
-rising_apart : (at : ℕ) (group : List ℕ) → RisesFrom at group → Apart group
+pub rising_apart : (at : ℕ) (group : List ℕ) → RisesFrom at group → Apart group
 rising_apart at [] rises = tt
 rising_apart at (place ∷ group) rises = (above_none place (suc place) group (omega arith) rises.1, rising_apart (suc place) group rises.1)
 

@@ -20,12 +20,14 @@ pub mod MadeOf
 pub mod Whole
 pub mod Places
 pub mod Taking
+pub mod Splits
 pub mod Weaving
 pub mod Woven
 pub mod CodeWords
 pub mod Rested
 pub mod Walked
 pub mod Loaded
+pub mod Loading
 pub mod Scanned
 pub mod Ready
 pub mod Totals

@@ -1,9 +1,8 @@
 -- What stands at a place of a scan.
 use Rattle.std.proofs.Common.{◌≡◌, ◌≤◌, ◌<◌, ◌+◌, ◌-◌, ◌^◌, ◌==◌, ℕ, zero, suc, Bool, true, false, List, [], ◌∷◌, ◌++◌, length, map, take, replicate, refl, ap, sym, subst, ◌∙◌, arith, Some, None, append_assoc}
-use Rattle.std.specs.declared.option.Option.{Option}
 use Rattle.std.specs.Prelude.{slice_get}
 use Rattle.std.specs.Option.{option_map}
-use Rattle.std.specs.List.{All, position_from, slice_index_or}
+use Rattle.std.specs.List.{All, slice_index_or}
 use Rattle.std.proofs.lemmas.Option.{slice_get-map, slice_get_within, same_Some}
 use Rattle.std.proofs.lemmas.List.{length-map, length-replicate, append-nil, take_all, replicate-append-replicate}
 use Rattle.scan_bits.specs.Words.{bits_of, number_of}
@@ -17,8 +16,9 @@ use Rattle.scan_share.specs.PrivateChains.{entries_at}
 use Rattle.scan_share.specs.Scans.{codes_of, code_during, codes_from, widths_during}
 use Rattle.scan_share.specs.Codes.{AreCodes}
 use Rattle.scan_share.specs.Written.{stages_from, group_widths}
-use Rattle.scan_share.specs.Rows.{ScanView, IsScanOf, IsOwnCode, own_codes, scan_codes, own_stages}
-use Rattle.scan_share.proofs.Lookups.{placed, entry_at, length-entries_at, code_or, code_during_is, codes_at, some_none}
+use Rattle.scan_share.specs.Rows.{ScanView, IsScanOf, own_codes, scan_codes, scan_words, own_stages, marks_below}
+use Rattle.scan_share.proofs.Lookups.{placed, entry_at, entry_within, length-entries_at, code_or, code_during_is, codes_at, some_none}
+use Rattle.scan_share.proofs.CodeWords.{number_small}
 
 pub few_bits : (part : DeviceType) → IsPart part → part.ir_length ≤ 64
 few_bits part is =
@@ -33,27 +33,7 @@ bypass_bits n word is = (λ i. bits_of (sym (length-replicate n true) i) (is i))
 pub bypass_below : (n word : ℕ) → word ≡ number_of (replicate n true) → word < 2 ^ n
 bypass_below n word is = rw is (subst (λ k. number_of (replicate n true) < 2 ^ k) (length-replicate n true) (number_of-lt (replicate n true)))
 
--- ---- places in a group
-
-position_is : (place : ℕ) (from : ℕ) (group : List ℕ) → position_from (λ other. other == place) from group ≡ option_map (λ n. from + n) (first_place (λ other. other == place) group)
-position_is place from [] = refl
-position_is place from (first ∷ group) = by (position_is place (from + 1) group) (first == place) refl
-  where
-    mapped : (o : Option ℕ) → option_map (λ n. (from + 1) + n) o ≡ option_map (λ n. from + n) (option_map suc o)
-    mapped None = refl
-    mapped (Some n) = ap Some (omega arith)
-
-    by : position_from (λ other. other == place) (from + 1) group ≡ option_map (λ n. (from + 1) + n) (first_place (λ other. other == place) group)
-        → (t : Bool) → (first == place) ≡ t → position_from (λ other. other == place) from (first ∷ group) ≡ option_map (λ n. from + n) (first_place (λ other. other == place) (first ∷ group))
-    by rest true h = rw h (ap Some (omega arith))
-    by rest false h = rw h (rest ∙ mapped (first_place (λ other. other == place) group))
-
-pub place_is : (place : ℕ) (group : List ℕ) → position_from (λ other. other == place) 0 group ≡ first_place (λ other. other == place) group
-place_is place group = position_is place 0 group ∙ same (first_place (λ other. other == place) group)
-  where
-    same : (o : Option ℕ) → option_map (λ n. 0 + n) o ≡ o
-    same None = refl
-    same (Some n) = ap Some (omega arith)
+-- ---- entries
 
 pub or_at : {X : Type 0} (xs : List X) (i : ℕ) (x d : X) → slice_get xs i ≡ Some x → slice_index_or xs i d ≡ x
 or_at [] i x d is = some_none x (sym is)
@@ -82,7 +62,11 @@ length-words [] (word ∷ words) are = absurd are
 length-words (part ∷ parts) [] are = absurd are
 length-words (part ∷ parts) (word ∷ words) are = ap suc (length-words parts words are.1)
 
-code_at : (parts : List DeviceType) (words : List ℕ) (i word : ℕ) (part : DeviceType) → slice_get parts i ≡ Some part → slice_get words i ≡ Some word
+length-codes_from : (group : List ℕ) (codes : List (List Bool)) (from : ℕ) (parts : List DeviceType) → length (codes_from group codes from parts) ≡ length parts
+length-codes_from group codes from [] = refl
+length-codes_from group codes from (part ∷ parts) = ap suc (length-codes_from group codes (suc from) parts)
+
+pub code_at : (parts : List DeviceType) (words : List ℕ) (i word : ℕ) (part : DeviceType) → slice_get parts i ≡ Some part → slice_get words i ≡ Some word
     → slice_get (codes_of parts words) i ≡ Some (bits_of part.ir_length word)
 code_at [] words i word part p w = some_none part (sym p)
 code_at (first ∷ parts) [] i word part p w = some_none word (sym w)
@@ -95,14 +79,14 @@ code_below (first ∷ parts) [] i word part are p w = absurd are
 code_below (first ∷ parts) (code ∷ words) zero word part are p w = subst (λ q. word < 2 ^ q.ir_length) (same_Some first part p) (subst (λ v. v < 2 ^ first.ir_length) (same_Some code word w) are.0)
 code_below (first ∷ parts) (code ∷ words) (suc i) word part are p w = code_below parts words i word part are.1 p w
 
-width_at : (parts : List DeviceType) (codes : List (List Bool)) (i : ℕ) (part : DeviceType) (code : List Bool) → slice_get parts i ≡ Some part → slice_get codes i ≡ Some code
+pub width_at : (parts : List DeviceType) (codes : List (List Bool)) (i : ℕ) (part : DeviceType) (code : List Bool) → slice_get parts i ≡ Some part → slice_get codes i ≡ Some code
     → slice_get (widths_during parts codes) i ≡ Some (width part code)
 width_at [] codes i part code p c = some_none part (sym p)
 width_at (first ∷ parts) [] i part code p c = some_none code (sym c)
 width_at (first ∷ parts) (other ∷ codes) zero part code p c = λ k. Some (width (same_Some first part p k) (same_Some other code c k))
 width_at (first ∷ parts) (other ∷ codes) (suc i) part code p c = width_at parts codes i part code p c
 
-length-widths : (parts : List DeviceType) (codes : List (List Bool)) → length codes ≡ length parts → length (widths_during parts codes) ≡ length parts
+pub length-widths : (parts : List DeviceType) (codes : List (List Bool)) → length codes ≡ length parts → length (widths_during parts codes) ≡ length parts
 length-widths [] codes size = refl
 length-widths (part ∷ parts) [] size = absurd (omega (arith, size))
 length-widths (part ∷ parts) (code ∷ codes) size = ap suc (length-widths parts codes (omega (arith, size)))
@@ -133,23 +117,29 @@ own_size scan is =
     ∙ length-entries_at scan.layout.parts scan.group (λ g q e. all_at (λ k. k < length scan.layout.parts) scan.group is.within g q e)
 
 pub own_code : (scan : ScanView) (place own word : ℕ) (part : DeviceType) → IsScanOf scan.layout scan.group scan.codes → slice_get scan.layout.parts place ≡ Some part
-    → position_from (λ other. other == place) 0 scan.group ≡ Some own → slice_get scan.codes own ≡ Some word
-    → slice_get (scan_codes scan) place ≡ Some (bits_of part.ir_length word)
-own_code scan place own word part is p o w =
-    let here : first_place (λ other. other == place) scan.group ≡ Some own = sym (place_is place scan.group) ∙ o in
+    → first_place (λ other. other == place) scan.group ≡ Some own → slice_get scan.codes own ≡ Some word
+    → slice_get (scan_words scan) place ≡ Some word
+own_code scan place own word part is p here w =
     let at = own_at scan place own word part is p here w in
-    codes_at scan.group (own_codes scan) scan.layout.parts place ∙ ap (option_map (λ q. code_during scan.group (own_codes scan) place (replicate q.ir_length true))) p
+    let entries = entries_at scan.layout.parts scan.group in
+    slice_get-map number_of (scan_codes scan) place
+    ∙ ap (option_map number_of) (codes_at scan.group (own_codes scan) scan.layout.parts place ∙ ap (option_map (λ q. code_during scan.group (own_codes scan) place (replicate q.ir_length true))) p
     ∙ ap Some (code_during_is scan.group (own_codes scan) place (replicate part.ir_length true) (own_size scan is)
-    ∙ ap (λ q. code_or q (own_codes scan) (replicate part.ir_length true)) here ∙ or_at (own_codes scan) own (bits_of part.ir_length word) (replicate part.ir_length true) at.code)
+    ∙ ap (λ q. code_or q (own_codes scan) (replicate part.ir_length true)) here ∙ or_at (own_codes scan) own (bits_of part.ir_length word) (replicate part.ir_length true) at.code))
+    ∙ ap Some (number_small part.ir_length word (code_below entries scan.codes own word part is.coded at.entry w))
 
-pub other_code : (scan : ScanView) (place : ℕ) (part : DeviceType) → IsScanOf scan.layout scan.group scan.codes → slice_get scan.layout.parts place ≡ Some part
-    → position_from (λ other. other == place) 0 scan.group ≡ None
-    → slice_get (scan_codes scan) place ≡ Some (replicate part.ir_length true)
-other_code scan place part is p o =
-    let none : first_place (λ other. other == place) scan.group ≡ None = sym (place_is place scan.group) ∙ o in
-    codes_at scan.group (own_codes scan) scan.layout.parts place ∙ ap (option_map (λ q. code_during scan.group (own_codes scan) place (replicate q.ir_length true))) p
+pub other_code : (scan : ScanView) (place word : ℕ) (part : DeviceType) → IsScanOf scan.layout scan.group scan.codes → slice_get scan.layout.parts place ≡ Some part
+    → first_place (λ other. other == place) scan.group ≡ None → word ≡ number_of (replicate part.ir_length true)
+    → slice_get (scan_words scan) place ≡ Some word
+other_code scan place word part is p none word_is =
+    slice_get-map number_of (scan_codes scan) place
+    ∙ ap (option_map number_of) (codes_at scan.group (own_codes scan) scan.layout.parts place ∙ ap (option_map (λ q. code_during scan.group (own_codes scan) place (replicate q.ir_length true))) p
     ∙ ap Some (code_during_is scan.group (own_codes scan) place (replicate part.ir_length true) (own_size scan is)
-    ∙ ap (λ q. code_or q (own_codes scan) (replicate part.ir_length true)) none)
+    ∙ ap (λ q. code_or q (own_codes scan) (replicate part.ir_length true)) none))
+    ∙ ap Some (sym word_is)
+
+pub length-scan_words : (scan : ScanView) → length (scan_words scan) ≡ length scan.layout.parts
+length-scan_words scan = length-map (scan_codes scan) number_of ∙ length-codes_from scan.group (own_codes scan) 0 scan.layout.parts
 
 -- the widths of the group's registers as ones
 abbrev ones_of : List ℕ → List (List Bool)
@@ -163,55 +153,6 @@ width_count scan is =
 
 stage_count : (scan : ScanView) → IsScanOf scan.layout scan.group scan.codes → length (ones_of (group_widths scan.layout scan.group (own_codes scan))) ≡ length scan.group
 stage_count scan is = length-map (group_widths scan.layout scan.group (own_codes scan)) (λ n. replicate n true) ∙ width_count scan is
-
-pub own_run : (scan : ScanView) (place own word count : ℕ) (part : DeviceType) → IsScanOf scan.layout scan.group scan.codes → slice_get scan.layout.parts place ≡ Some part
-    → position_from (λ other. other == place) 0 scan.group ≡ Some own → slice_get scan.codes own ≡ Some word → count ≡ width part (bits_of part.ir_length word)
-    → slice_get (own_stages scan) place ≡ Some (replicate count true)
-own_run scan place own word count part is p o w size =
-    let here : first_place (λ other. other == place) scan.group ≡ Some own = sym (place_is place scan.group) ∙ o in
-    let at = own_at scan place own word part is p here w in
-    let entries = entries_at scan.layout.parts scan.group in
-    let widths = widths_during entries (own_codes scan) in
-    let one : slice_get widths own ≡ Some (width part (bits_of part.ir_length word)) = width_at entries (own_codes scan) own part (bits_of part.ir_length word) at.entry at.code in
-    let stage : slice_get (ones_of widths) own ≡ Some (replicate count true)
-    = slice_get-map (λ n. replicate n true) widths own ∙ ap (option_map (λ n. replicate n true)) (one ∙ ap Some (sym size)) in
-    stages_at scan.group (ones_of widths) 0 scan.layout.parts place part p
-    ∙ ap (λ k. Some (code_during scan.group (ones_of widths) k (false ∷ []))) (omega arith)
-    ∙ ap Some (code_during_is scan.group (ones_of widths) place (false ∷ []) (stage_count scan is)
-    ∙ ap (λ q. code_or q (ones_of widths) (false ∷ [])) here ∙ or_at (ones_of widths) own (replicate count true) (false ∷ []) stage)
-
-pub other_run : (scan : ScanView) (place : ℕ) (part : DeviceType) → IsScanOf scan.layout scan.group scan.codes → slice_get scan.layout.parts place ≡ Some part
-    → position_from (λ other. other == place) 0 scan.group ≡ None → slice_get (own_stages scan) place ≡ Some (false ∷ [])
-other_run scan place part is p o =
-    let none : first_place (λ other. other == place) scan.group ≡ None = sym (place_is place scan.group) ∙ o in
-    let widths = widths_during (entries_at scan.layout.parts scan.group) (own_codes scan) in
-    stages_at scan.group (ones_of widths) 0 scan.layout.parts place part p
-    ∙ ap (λ k. Some (code_during scan.group (ones_of widths) k (false ∷ []))) (omega arith)
-    ∙ ap Some (code_during_is scan.group (ones_of widths) place (false ∷ []) (stage_count scan is) ∙ ap (λ q. code_or q (ones_of widths) (false ∷ [])) none)
-
--- a group's device has a code
-pub own_within : (scan : ScanView) (place own : ℕ) → IsScanOf scan.layout scan.group scan.codes → position_from (λ other. other == place) 0 scan.group ≡ Some own → own < length scan.codes
-own_within scan place own is o =
-    let here : own < length scan.group = slice_get_within scan.group own place (placed scan.group place own (sym (place_is place scan.group) ∙ o)) in
-    let size : length scan.codes ≡ length scan.group
-    = length-words (entries_at scan.layout.parts scan.group) scan.codes is.coded
-    ∙ length-entries_at scan.layout.parts scan.group (λ g q e. all_at (λ k. k < length scan.layout.parts) scan.group is.within g q e) in
-    omega (arith, here, size)
-
--- the code that was looked up
-pub looked_up : (scan : ScanView) (place : ℕ) (part : DeviceType) → IsScanOf scan.layout scan.group scan.codes → slice_get scan.layout.parts place ≡ Some part
-    → (own code : ℕ) → position_from (λ other. other == place) 0 scan.group ≡ Some own → slice_get scan.codes own ≡ Some code → IsOwnCode scan place part (Some code)
-looked_up scan place part is p own code o w =
-    let here : first_place (λ other. other == place) scan.group ≡ Some own = sym (place_is place scan.group) ∙ o in
-    let at = own_at scan place own code part is p here w in (
-      code_below (entries_at scan.layout.parts scan.group) scan.codes own code part is.coded at.entry w,
-      own_code scan place own code part is p o w,
-      own_run scan place own code (width part (bits_of part.ir_length code)) part is p o w refl,
-    )
-
-pub looked_up_other : (scan : ScanView) (place : ℕ) (part : DeviceType) → IsScanOf scan.layout scan.group scan.codes → slice_get scan.layout.parts place ≡ Some part
-    → position_from (λ other. other == place) 0 scan.group ≡ None → IsOwnCode scan place part None
-looked_up_other scan place part is p o = (other_code scan place part is p o, other_run scan place part is p o)
 
 -- ---- stages from the last to the first
 
@@ -242,14 +183,23 @@ length-stages : {X : Type 0} (group : List ℕ) (pieces : List (List Bool)) (fro
 length-stages group pieces from [] = refl
 length-stages group pieces from (x ∷ xs) = ap suc (length-stages group pieces (suc from) xs)
 
-length-codes_from : (group : List ℕ) (codes : List (List Bool)) (from : ℕ) (parts : List DeviceType) → length (codes_from group codes from parts) ≡ length parts
-length-codes_from group codes from [] = refl
-length-codes_from group codes from (part ∷ parts) = ap suc (length-codes_from group codes (suc from) parts)
-
 -- a scan has a stage for each device
 pub all_stages : (scan : ScanView) (count : ℕ) → count ≡ length scan.layout.parts → take count (own_stages scan) ≡ own_stages scan
 all_stages scan count is =
     take_all count (own_stages scan) (omega (arith, is, length-stages scan.group (ones_of (widths_during (entries_at scan.layout.parts scan.group) (own_codes scan))) 0 scan.layout.parts))
 
-pub all_codes : (scan : ScanView) (count : ℕ) → count ≡ length scan.layout.parts → take count (scan_codes scan) ≡ scan_codes scan
-all_codes scan count is = take_all count (scan_codes scan) (omega (arith, is, length-codes_from scan.group (own_codes scan) 0 scan.layout.parts))
+-- and the bits of the first stages are those below a place
+pub marks_are : (scan : ScanView) (place : ℕ) → place ≤ length scan.layout.parts
+    → joined (take place (own_stages scan)) ≡ marks_below scan.group (group_widths scan.layout scan.group (own_codes scan)) place
+marks_are scan zero le = refl
+marks_are scan (suc place) le =
+    let ones = ones_of (group_widths scan.layout scan.group (own_codes scan)) in
+    let part = entry_within scan.layout.parts place (omega (arith, le)) in
+    next_stage (own_stages scan) place (code_during scan.group ones place (false ∷ []))
+    (stages_at scan.group ones 0 scan.layout.parts place (part.0) (part.1) ∙ ap (λ k. Some (code_during scan.group ones k (false ∷ []))) (omega arith))
+    ∙ ap (λ q. code_during scan.group ones place (false ∷ []) ++ q) (marks_are scan place (omega (arith, le)))
+
+pub all_marks : (scan : ScanView) (count : ℕ) (widths : List ℕ) → count ≡ length scan.layout.parts → widths ≡ group_widths scan.layout scan.group (own_codes scan)
+    → marks_below scan.group widths count ≡ joined (own_stages scan)
+all_marks scan count widths is widths_are =
+    ap (λ ws. marks_below scan.group ws count) widths_are ∙ sym (marks_are scan count (omega (arith, is))) ∙ ap joined (all_stages scan count is)

@@ -21,6 +21,7 @@ use Rattle.scan_share.specs.Views.{words_of, OpenWith}
 use Rattle.scan_share.specs.Laws.{IsScan, IsGroup}
 use Rattle.scan_share.proofs.Groups.{group_of_laws}
 use Rattle.scan_share.proofs.Lookups.{length-entries_at}
+use Rattle.scan_share.proofs.Places.{length-codes, length-widths}
 use Rattle.scan_share.proofs.Loads.{codes_lengths}
 use Rattle.scan_share.proofs.Widths.{joined_length}
 use Rattle.scan_share.proofs.Updates.{written_lengths}
@@ -36,6 +37,12 @@ grants_group layout grant apart = record {
 
 pub coded : (layout : LayoutShape) (group words : List ℕ) → IsGroup layout group → AreCodes (entries_at layout.parts group) words → length words ≡ length group
 coded layout group words is are = codes_counted (entries_at layout.parts group) words are ∙ length-entries_at layout.parts group (group_of_laws layout group is).within
+
+pub widths_counted : (layout : LayoutShape) (group words : List ℕ) → IsGroup layout group → AreCodes (entries_at layout.parts group) words
+    → length (group_widths layout group (codes_of (entries_at layout.parts group) words)) ≡ length group
+widths_counted layout group words is are =
+    length-widths (entries_at layout.parts group) (codes_of (entries_at layout.parts group) words) (length-codes (entries_at layout.parts group) words are)
+    ∙ length-entries_at layout.parts group (group_of_laws layout group is).within
 
 pub scan_is : (layout : LayoutShape) (group words : List ℕ) → AllParts layout.parts → 1 ≤ length layout.parts → IsGroup layout group → AreCodes (entries_at layout.parts group) words
     → IsScan layout group (codes_of (entries_at layout.parts group) words)

@@ -1,15 +1,14 @@
 -- The bits that a scan of the shared chain shifts in, and those of the group among the bits that come out.
-use Rattle.std.specs.declared.option.Option.{Option}
-use Rattle.std.specs.declared.option.Option.TheVariants.{None, Some}
-use Rattle.std.specs.Prelude.{ℕ, suc, ◌≡◌, slice_get, ◌<◌, ◌^◌, Bool, true, false, List, [], ◌∷◌, map, length, replicate}
+use Rattle.std.specs.declared.option.Option.TheVariants.{Some}
+use Rattle.std.specs.Prelude.{ℕ, zero, suc, ◌≡◌, slice_get, ◌≤◌, ◌<◌, ◌^◌, Bool, true, false, List, [], ◌∷◌, ◌++◌, map, length, replicate}
 use Rattle.std.specs.List.{All}
-use Rattle.scan_bits.specs.Words.{bits_of}
-use Rattle.part_model.specs.Parts.{DeviceType, width}
+use Rattle.scan_bits.specs.Words.{number_of}
+use Rattle.part_model.specs.Parts.{DeviceType}
 use Rattle.grant_table.specs.Layouts.{LayoutShape}
 use Rattle.grant_table.specs.Kept.{AllParts}
 use Rattle.grant_table.specs.Apart.{RisesFrom}
 use Rattle.scan_share.specs.PrivateChains.{entries_at}
-use Rattle.scan_share.specs.Scans.{codes_of, codes_during}
+use Rattle.scan_share.specs.Scans.{code_during, codes_of, codes_during}
 use Rattle.scan_share.specs.Codes.{AreCodes}
 use Rattle.scan_share.specs.Written.{group_widths, stages_from}
 
@@ -24,6 +23,7 @@ pub record IsScanOf (layout : LayoutShape) (group codes : List ℕ) : Type 0 whe
   pub parts : AllParts layout.parts
   pub rising : RisesFrom 0 group
   pub within : All (λ place. place < length layout.parts) group
+  pub few : length group ≤ 32
   pub coded : AreCodes (entries_at layout.parts group) codes
 
 -- the group's codes, each as bits of its device type's instruction length
@@ -33,6 +33,10 @@ own_codes scan = codes_of (entries_at scan.layout.parts scan.group) scan.codes
 -- the instruction of each device
 abbrev pub scan_codes : ScanView → List (List Bool)
 scan_codes scan = codes_during scan.layout scan.group (own_codes scan)
+
+-- and as a word
+abbrev pub scan_words : ScanView → List ℕ
+scan_words scan = map number_of (scan_codes scan)
 
 -- for each device a stage of its data register's length: ones for the group's own, and a 0 for each other device, which is in BYPASS
 abbrev pub own_stages : ScanView → List (List Bool)
@@ -58,10 +62,35 @@ chosen (place ∷ places) [] = []
 chosen (false ∷ places) (bit ∷ bits) = chosen places bits
 chosen (true ∷ places) (bit ∷ bits) = bit ∷ chosen places bits
 
--- the code of the group's device at a place, or none where another device stands there: its instruction, and its stage of the scan
-abbrev pub IsOwnCode : ScanView → ℕ → DeviceType → Option ℕ → Type 0
-IsOwnCode scan place part (Some word) =
-    (word < 2 ^ part.ir_length) × (slice_get (scan_codes scan) place ≡ Some (bits_of part.ir_length word))
-    × (slice_get (own_stages scan) place ≡ Some (replicate (width part (bits_of part.ir_length word)) true))
-IsOwnCode scan place part None =
-    (slice_get (scan_codes scan) place ≡ Some (replicate part.ir_length true)) × (slice_get (own_stages scan) place ≡ Some (false ∷ []))
+-- so many devices of the group stand below a place
+pub record IsSplit (group : List ℕ) (own place : ℕ) : Type 0 where
+  pub below : (i other : ℕ) → i < own → slice_get group i ≡ Some other → other < place
+  pub above : (i other : ℕ) → own ≤ i → slice_get group i ≡ Some other → place ≤ other
+
+-- a group of at most 32 devices whose registers have these widths, and how many of it stand below a place
+pub record IsRow (group widths : List ℕ) (own place : ℕ) : Type 0 where
+  pub rising : RisesFrom 0 group
+  pub counted : length widths ≡ length group
+  pub wide : (i : ℕ) (width : ℕ) → slice_get widths i ≡ Some width → 1 ≤ width
+  pub low : (i other : ℕ) → slice_get group i ≡ Some other → other < 32
+  pub few : place ≤ 32
+  pub within : own ≤ length group
+  pub split : IsSplit group own place
+
+-- the bits of the devices below a place in a scan, the last device first: ones for the group's own registers, which have these widths,
+-- and a 0 for each other device, which is in BYPASS
+abbrev pub marks_below : List ℕ → List ℕ → ℕ → List Bool
+marks_below group widths zero = []
+marks_below group widths (suc place) = code_during group (map (λ width. replicate width true) widths) place (false ∷ []) ++ marks_below group widths place
+
+-- and so many bits of a run before them
+abbrev pub marks_left : List ℕ → List ℕ → ℕ → ℕ → Bool → List Bool
+marks_left group widths place count own = replicate count own ++ marks_below group widths place
+
+-- the codes of a chain's devices are loaded: those below a place are left, and so many bits of a word before them
+pub record IsLoad (parts : List DeviceType) (codes : List ℕ) (place count bits : ℕ) : Type 0 where
+  pub coded : AreCodes parts codes
+  pub within : place ≤ length parts
+  pub low : place ≤ 32
+  pub few : count ≤ 64
+  pub bound : bits < 2 ^ count

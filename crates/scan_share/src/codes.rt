@@ -5,10 +5,11 @@ ghost use Rattle.scan_bits.specs.Words.{number_of};
 ghost use Rattle.grant_table.specs.Kept.{AllParts};
 ghost use Rattle.scan_share.specs.PrivateChains.{entries_at};
 ghost use Rattle.grant_table.specs.Layouts.{group_of};
-ghost use Rattle.scan_share.specs.Codes.{AreCodes, all_ones, put_at, reset_word};
+ghost use Rattle.scan_share.specs.Codes.{AreCodes, reset_word};
 ghost use Rattle.scan_share.specs.Views.{IsLoadedFor};
 
 use crate::members::members;
+use crate::scan::Scan;
 use arrayvec::ArrayVec;
 use grant_table::Layout;
 use part_model::Part;
@@ -21,17 +22,6 @@ pub fn bypass_code(part: &Part) -> u64
     ensures { result ≡ number_of (replicate part.now.ir_length true) }
 {
     u64::MAX >> (64 - part.ir_len())
-}
-
-// BYPASS for each device.
-fn bypass_codes(layout: &Layout) -> Codes
-    ensures { result.items ≡ map all_ones layout.now.parts }
-{
-    let mut codes = ArrayVec::new();
-    for place in 0..layout.devices() {
-        codes.push(bypass_code(layout.part(place)));
-    }
-    codes
 }
 
 // The codes that Test-Logic-Reset loads.
@@ -47,26 +37,21 @@ pub fn reset_codes(layout: &Layout) -> Codes
     codes
 }
 
-// The codes during a scan for a group: its own, and BYPASS elsewhere.
-fn placed_codes(layout: &Layout, group: &[usize], codes: &[u64]) -> Codes
-    requires within { All (λ place. place < length layout.now.parts) group.now }
-    requires coded { length codes.now ≡ length group.now }
-    ensures { result.items ≡ put_at group.now codes.now (map all_ones layout.now.parts) }
-{
-    let mut all = bypass_codes(layout);
-    for i in 0..group.len() {
-        all[group[i]] = codes[i];
-    }
-    all
-}
-
-// The codes during a scan for a grant.
-pub fn codes_during(layout: &Layout, grant: usize, codes: &[u64]) -> Codes
+/// Makes the codes that are loaded those of a scan for a grant. Says whether they were so already.
+pub fn load(layout: &Layout, grant: usize, codes: &[u64], loaded: &mut Codes) -> bool
     requires grant { grant < length layout.now.grants }
     requires codes { AreCodes (entries_at layout.now.parts (group_of layout.now.grants grant)) codes.now }
-    ensures { IsLoadedFor layout.now grant codes.now result.items }
+    ensures is { IsLoadedFor layout.now grant codes.now loaded.new.items }
+    ensures same { result ≡ true → loaded.old.items ≡ loaded.new.items }
+    ensures differ { result ≡ false → loaded.old.items ≢ loaded.new.items }
 {
-    placed_codes(layout, members(layout, grant), codes)
+    let group = members(layout, grant);
+    let scan = Scan::new(layout, group, codes);
+    if scan.is_loaded(loaded) {
+        return true;
+    }
+    *loaded = scan.all_codes();
+    false
 }
 
 // The same codes.
@@ -79,14 +64,6 @@ pub fn copy_of(codes: &[u64]) -> Codes
         Ok(()) => copy,
         Err(_) => unreachable!(),
     }
-}
-
-// Whether these are the same codes.
-pub fn are_same(one: &Codes, other: &Codes) -> bool
-    ensures same { result ≡ true → one.now.items ≡ other.now.items }
-    ensures differ { result ≡ false → one.now.items ≢ other.now.items }
-{
-    one.as_slice() == other.as_slice()
 }
 
 // Whether a word is a code of a device type: it has no bits above its instruction register's.

@@ -1,12 +1,12 @@
 // What a scan of the shared chain is for, device by device.
-ghost use Rattle.std.specs.Prelude.{◌≡◌, ◌≤◌, ◌<◌, ◌==◌, ◌^◌, length, replicate, slice_get, Some};
-ghost use Rattle.std.specs.List.{position_from};
-ghost use Rattle.scan_bits.specs.Words.{bits_of};
-ghost use Rattle.part_model.specs.Parts.{DeviceType};
-ghost use Rattle.scan_share.specs.Rows.{IsScanOf, IsOwnCode, scan_codes, own_stages};
+ghost use Rattle.std.specs.Prelude.{◌≡◌, ◌≢◌, ◌≤◌, ◌<◌, ◌+◌, ◌==◌, length, slice_get, true, false, Some, None};
+ghost use Rattle.grant_table.specs.Layouts.{first_place};
+ghost use Rattle.scan_share.specs.Written.{group_widths};
+ghost use Rattle.scan_share.specs.Rows.{IsScanOf, IsSplit, own_codes, scan_words};
 
-use crate::codes::bypass_code;
-use crate::pieces::Piece;
+use crate::codes::{Codes, bypass_code};
+use crate::scan_length::{Widths, register_widths};
+use arrayvec::ArrayVec;
 use grant_table::Layout;
 use std::marker::Model;
 
@@ -27,13 +27,6 @@ impl<'a> Model for Scan<'a> {
     ghost view = { λ s. record { layout = s.layout.now; group = s.group.now; codes = s.codes.now } };
 
     ghost invariant = { λ s. IsScanOf s.layout.now s.group.now s.codes.now };
-}
-
-/// Bits of one device in a scan of data registers: the group's own, or the one of BYPASS.
-#[derive(Clone, Copy)]
-pub struct Run {
-    pub own: bool,
-    pub count: u32,
 }
 
 impl<'a> Scan<'a> {
@@ -58,60 +51,76 @@ impl<'a> Scan<'a> {
         self.layout.devices()
     }
 
-    // Which of the group's devices stands at a place.
-    fn own_place(&self, place: usize) -> Option<usize>
-        ensures is { result ≡ position_from (λ other. other == place) 0 self.now.group }
+    /// The places of the group, rising.
+    pub fn group(&self) -> &'a [usize]
+        ensures { result.now ≡ self.now.group }
+    {
+        self.group
+    }
+
+    // Whether a device of the group stands at a place, before which stand so many others of it.
+    fn is_own(&self, place: usize, own: usize) -> bool
+        requires { IsSplit self.now.group own place }
+        ensures own { result ≡ true → slice_get self.now.group own ≡ Some place }
+        ensures other { result ≡ false → first_place (λ other. other == place) self.now.group ≡ None }
         ensures scan { IsScanOf self.now.layout self.now.group self.now.codes }
     {
-        self.group.iter().position(|other| *other == place)
+        own < self.group.len() && self.group[own] == place
     }
 
-    // The code of the group's device at a place, None where another device stands there.
-    fn own_code(&self, place: usize) -> Option<u64>
-        ensures { (part : DeviceType) → slice_get self.now.layout.parts place ≡ Some part → IsOwnCode self.now place part result }
+    // The instruction code of the device at a place, before which stand so many devices of the group: its own one in the group, and all
+    // ones elsewhere. And how many of the group stand up to the place.
+    fn code(&self, place: usize, own: usize) -> (u64, usize)
+        requires within { place < length self.now.layout.parts }
+        requires split { IsSplit self.now.group own place }
+        ensures code { slice_get (scan_words self.now) place ≡ Some result.0 }
+        ensures split { IsSplit self.now.group result.1 (place + 1) }
     {
-        let codes = self.codes;
-        let own = self.own_place(place)?;
-        Some(codes[own])
-    }
-
-    /// The instruction code of the device at a place: its own one in the group, and all ones elsewhere. Bit 0 is nearest TDO.
-    pub fn code(&self, place: usize) -> Piece
-        requires { place < length self.now.layout.parts }
-        ensures is { slice_get (scan_codes self.now) place ≡ Some (bits_of result.count result.bits) }
-        ensures bound { result.bits < 2 ^ result.count }
-        ensures some { 1 ≤ result.count }
-        ensures few { result.count ≤ 64 }
-    {
-        let part = self.layout.part(place);
-        let count = part.ir_len();
-        match self.own_code(place) {
-            Some(bits) => Piece { count, bits },
-            None => Piece {
-                count,
-                bits: bypass_code(part),
-            },
+        if self.is_own(place, own) {
+            let codes = self.codes;
+            return (codes[own], own + 1);
         }
+        (bypass_code(self.layout.part(place)), own)
     }
 
-    /// The bits of the device at a place in a scan of data registers.
-    pub fn run(&self, place: usize) -> Run
-        requires { place < length self.now.layout.parts }
-        ensures is { slice_get (own_stages self.now) place ≡ Some (replicate result.count result.own) }
-        ensures some { 1 ≤ result.count }
+    /// Whether these are the codes of all devices during the scan.
+    pub fn is_loaded(&self, loaded: &[u64]) -> bool
+        ensures same { result ≡ true → loaded.now ≡ scan_words self.now }
+        ensures differ { result ≡ false → loaded.now ≢ scan_words self.now }
     {
-        let part = self.layout.part(place);
-        match self.own_code(place) {
-            Some(code) => {
-                Run {
-                    own: true,
-                    count: part.len_of(part.select(code)),
-                }
+        if loaded.len() != self.devices() {
+            return false;
+        }
+        let mut own = 0;
+        for place in 0..loaded.len() {
+            let (code, next) = self.code(place, own);
+            if loaded[place] != code {
+                return false;
             }
-            None => Run {
-                own: false,
-                count: 1,
-            },
+            own = next;
         }
+        true
+    }
+
+    /// The codes of all devices during the scan.
+    pub fn all_codes(&self) -> Codes
+        ensures { result.items ≡ scan_words self.now }
+    {
+        let mut all = ArrayVec::new();
+        let mut own = 0;
+        for place in 0..self.devices() {
+            let (code, next) = self.code(place, own);
+            all.push(code);
+            own = next;
+        }
+        all
+    }
+
+    /// How many bits the registers have that the group's codes select.
+    pub fn widths(&self) -> Widths
+        ensures { result.items ≡ group_widths self.now.layout self.now.group (own_codes self.now) }
+    {
+        let _devices = self.devices();
+        register_widths(self.layout, self.group, self.codes)
     }
 }

@@ -13,36 +13,53 @@ ghost use Rattle.grant_table.specs.Layouts.{group_of, longest_of};
 ghost use Rattle.scan_share.specs.Written.{group_widths};
 
 use crate::members::members;
+use crate::scan::Scan;
+use arrayvec::ArrayVec;
 use grant_table::Layout;
 use part_model::Part;
 
+/// How many bits registers of devices have, from TDI on.
+pub type Widths = ArrayVec<u32, 32>;
+
 // The length of the register that a code selects.
-fn width(part: &Part, code: u64) -> usize
+fn width(part: &Part, code: u64) -> u32
     ensures is { result ≡ parts.width part.now (bits_of part.now.ir_length code) }
-    ensures bound { result < 2 ^ 32 }
 {
-    part.len_of(part.select(code)) as usize
+    part.len_of(part.select(code))
 }
 
-// How many bits the registers of a group's devices have under these codes.
-fn own_length(layout: &Layout, group: &[usize], codes: &[u64]) -> usize
+/// How many bits the registers of a group's devices have under these codes.
+pub fn register_widths(layout: &Layout, group: &[usize], codes: &[u64]) -> Widths
     requires few { length group.now ≤ 32 }
     requires within { All (λ place. place < length layout.now.parts) group.now }
     requires coded { length codes.now ≡ length group.now }
-    ensures is { result ≡ sum_by (λ w. w) (group_widths layout.now group.now (codes_of (entries_at layout.now.parts group.now) codes.now)) }
+    ensures { result.items ≡ group_widths layout.now group.now (codes_of (entries_at layout.now.parts group.now) codes.now) }
+{
+    let mut widths = ArrayVec::new();
+    for i in 0..group.len() {
+        widths.push(width(layout.part(group[i]), codes[i]));
+    }
+    widths
+}
+
+// How many bits there are together.
+fn total(widths: &[u32]) -> usize
+    requires few { length widths.now ≤ 32 }
+    ensures is { result ≡ sum_by (λ w. w) widths.now }
     ensures bound { result ≤ 32 * 2 ^ 32 }
 {
     let mut sum = 0;
-    for i in 0..group.len() {
-        sum += width(layout.part(group[i]), codes[i]);
+    for width in widths {
+        sum += *width as usize;
     }
     sum
 }
 
-// How many bits a scan for a grant has: those of its devices' registers, and one for each other device.
-pub fn scan_length(layout: &Layout, grant: usize, codes: &[u64]) -> usize
+/// How many bits a scan for a grant has: those of its devices' registers, which have these widths, and one for each other device.
+pub fn scan_length(layout: &Layout, grant: usize, codes: &[u64], widths: &[u32]) -> usize
     requires grant { grant < length layout.now.grants }
     requires codes { AreCodes (entries_at layout.now.parts (group_of layout.now.grants grant)) codes.now }
+    requires widths { widths.now ≡ group_widths layout.now (group_of layout.now.grants grant) (codes_for layout.now grant codes.now) }
     ensures is { result ≡ scan_length layout.now (group_of layout.now.grants grant) (codes_for layout.now grant codes.now) }
     ensures group { IsGroup layout.now (group_of layout.now.grants grant) }
     ensures parts { AllParts layout.now.parts }
@@ -50,7 +67,7 @@ pub fn scan_length(layout: &Layout, grant: usize, codes: &[u64]) -> usize
     ensures few { length codes.now ≤ 32 }
 {
     let group = members(layout, grant);
-    own_length(layout, group, codes) + layout.devices() - group.len()
+    total(widths) + layout.devices() - group.len()
 }
 
 /// How many bits the registers of a grant's devices have under these instruction codes, from TDI on: those that a capture gives and an
@@ -61,5 +78,6 @@ pub fn own_width(layout: &Layout, grant: usize, codes: &[u64]) -> usize
     ensures is { result ≡ own_width layout.now grant codes.now }
     ensures bound { result ≤ longest_of layout.now (group_of layout.now.grants grant) }
 {
-    own_length(layout, members(layout, grant), codes)
+    let group = members(layout, grant);
+    total(&Scan::new(layout, group, codes).widths())
 }

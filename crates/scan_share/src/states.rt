@@ -7,13 +7,13 @@ ghost use Rattle.scan_bits.specs.Registers.{joined};
 ghost use Rattle.grant_table.specs.Layouts.{group_of};
 ghost use Rattle.scan_share.specs.PrivateChains.{entries_at};
 ghost use Rattle.scan_share.specs.Scans.{Starts, Captures, IsReadOut, Updates, Abandons, IsWhole, codes_during, scan_length};
-ghost use Rattle.scan_share.specs.Written.{written};
+ghost use Rattle.scan_share.specs.Written.{group_widths, written};
 ghost use Rattle.scan_share.specs.Codes.{AreCodes};
 ghost use Rattle.scan_share.specs.Laws.{own_bits};
 ghost use Rattle.scan_share.specs.Views.{parked_or_broken, open_or_broken, AsksAtMost, IsLoadedFor, codes_for, own_width, capture_calls, update_calls};
 
 use crate::code_bits::CodeBits;
-use crate::codes::{Codes, are_same, codes_during, copy_of, reset_codes};
+use crate::codes::{Codes, copy_of, load, reset_codes};
 use crate::members::members;
 use crate::own_bits::OwnBits;
 use crate::runs::Runs;
@@ -132,25 +132,26 @@ impl<C: Cable> Parked<C> {
         ensures cause { HasCause (C.fault_count self.cable) (C.fault_count (open_or_broken result)) result }
     {
         let group = members(layout, grant);
+        let scan = Scan::new(layout, group, codes);
+        let widths = scan.widths();
         into.clear();
-        let mut source = CodeBits::new(Scan::new(layout, group, codes));
-        let mut runs = Runs::new(Scan::new(layout, group, codes));
+        let mut runs = Runs::new(&scan, &widths);
         let mut sink = OwnBits::new(&mut runs, into);
-        self.capture_by(layout, grant, codes, &mut source, &mut sink)
+        self.capture_by(layout, grant, codes, &widths, &mut sink)
     }
 
-    // Captures with the bits of the codes from a source and the bits read out to a sink.
-    fn capture_by<'a, 'b, S: BitSource>(
+    // Captures with the bits read out to a sink, where the registers have these widths.
+    fn capture_by<'a, 'b>(
         self,
         layout: &Layout,
         grant: usize,
         codes: &[u64],
-        source: &mut S,
+        widths: &[u32],
         sink: &mut OwnBits<'a, 'b>,
     ) -> Result<Open<C>, Broken<C>>
         requires grant { grant < length layout.now.grants }
         requires codes { AreCodes (entries_at layout.now.parts (group_of layout.now.grants grant)) codes.now }
-        requires source { S.left source.old ≡ joined (codes_during layout.now (group_of layout.now.grants grant) (codes_for layout.now grant codes.now)) }
+        requires widths { widths.now ≡ group_widths layout.now (group_of layout.now.grants grant) (codes_for layout.now grant codes.now) }
         requires room { scan_length layout.now (group_of layout.now.grants grant) (codes_for layout.now grant codes.now) ≤ ⟦<OwnBits<'a, 'b> as BitSink>⟧.room sink.old }
         requires kept { (out : List Bool) → length out ≡ scan_length layout.now (group_of layout.now.grants grant) (codes_for layout.now grant codes.now) → ⟦<OwnBits<'a, 'b> as BitSink>⟧.holds sink.old out ≡ own_bits layout.now (group_of layout.now.grants grant) (codes_for layout.now grant codes.now) out }
         requires whole { Told (C.chain self.cable) (IsWhole layout.now) }
@@ -167,13 +168,16 @@ impl<C: Cable> Parked<C> {
         ensures trst { C.trst (open_or_broken result) ≡ C.trst self.cable }
         ensures cause { HasCause (C.fault_count self.cable) (C.fault_count (open_or_broken result)) result }
     {
-        let Parked { mut cable, loaded } = self;
-        let wanted = codes_during(layout, grant, codes);
-        let count = scan_length(layout, grant, codes);
-        let is_loaded = are_same(&loaded, &wanted);
+        let Parked {
+            mut cable,
+            mut loaded,
+        } = self;
+        let count = scan_length(layout, grant, codes, widths);
+        let is_loaded = load(layout, grant, codes, &mut loaded);
+        let mut source = CodeBits::new(layout, &loaded);
         match scan_out(
             &mut cable,
-            source,
+            &mut source,
             layout.ir_total(),
             is_loaded,
             sink,
@@ -181,7 +185,7 @@ impl<C: Cable> Parked<C> {
         ) {
             Ok(()) => Ok(Open {
                 cable,
-                loaded: wanted,
+                loaded,
                 grant,
                 codes: copy_of(codes),
             }),
@@ -237,24 +241,28 @@ impl<C: Cable> Open<C> {
         ensures trst { C.trst (parked_or_broken result) ≡ C.trst self.cable }
         ensures cause { HasCause (C.fault_count self.cable) (C.fault_count (parked_or_broken result)) result }
     {
-        let scan = Scan::new(layout, members(layout, grant), codes);
-        let mut source = WriteBits::new(scan, bits);
-        self.update_by(layout, grant, codes, bits, &mut source)
+        let group = members(layout, grant);
+        let scan = Scan::new(layout, group, codes);
+        let widths = scan.widths();
+        let mut source = WriteBits::new(&scan, &widths, bits);
+        self.update_by(layout, grant, codes, bits, &widths, &mut source)
     }
 
-    // Updates from a source of all bits of the scan.
+    // Updates from a source of all bits of the scan, where the registers have these widths.
     fn update_by<S: BitSource>(
         self,
         layout: &Layout,
         grant: usize,
         codes: &[u64],
         bits: &Bits,
+        widths: &[u32],
         source: &mut S,
     ) -> Result<Parked<C>, Broken<C>>
         requires grant { grant < length layout.now.grants }
         requires codes { AreCodes (entries_at layout.now.parts (group_of layout.now.grants grant)) codes.now }
         requires loaded { IsLoadedFor layout.now grant codes.now self.loaded }
         requires long { length bits.now.bits ≡ own_width layout.now grant codes.now }
+        requires widths { widths.now ≡ group_widths layout.now (group_of layout.now.grants grant) (codes_for layout.now grant codes.now) }
         requires source { S.left source.old ≡ joined (written layout.now (group_of layout.now.grants grant) (codes_for layout.now grant codes.now) bits.now.bits) }
         requires whole { Told (C.chain self.cable) (IsWhole layout.now) }
         ensures updated { IfOk result (λ parked. Both (C.chain self.cable) (C.chain parked.cable) (Updates layout.now (group_of layout.now.grants grant) (codes_for layout.now grant codes.now) bits.now.bits)) }
@@ -270,7 +278,7 @@ impl<C: Cable> Open<C> {
             grant: _,
             codes: _,
         } = self;
-        let count = scan_length(layout, grant, codes);
+        let count = scan_length(layout, grant, codes, widths);
         match write(&mut cable, source, count) {
             Ok(()) => Ok(Parked { cable, loaded }),
             Err(_) => Err(Broken { cable }),

@@ -2,7 +2,7 @@
 ghost use Rattle.std.specs.Prelude.{◌≡◌, ◌≤◌, ◌+◌, length, drop};
 ghost use Rattle.scan_bits.specs.Registers.{joined};
 ghost use Rattle.scan_share.specs.Lengths.{own_length};
-ghost use Rattle.scan_share.specs.Written.{written};
+ghost use Rattle.scan_share.specs.Written.{group_widths, written};
 ghost use Rattle.scan_share.specs.Rows.{own_codes, woven};
 
 use crate::pieces::{Piece, Pieces, taken};
@@ -29,13 +29,14 @@ fn next_place(at: usize, n: u32, end: usize) -> usize
 }
 
 impl<'a> WriteBits<'a> {
-    /// All bits of a write of the group's registers, bit 0 nearest TDO.
-    pub fn new(scan: Scan<'a>, bits: &'a Bits) -> WriteBits<'a>
-        requires long { length bits.now.bits ≡ own_length scan.layout scan.group (own_codes scan) }
-        ensures { ⟦<WriteBits<'a> as BitSource>⟧.left result ≡ joined (written scan.entry.layout scan.entry.group (own_codes scan.entry) bits.now.bits) }
+    /// All bits of a write of the group's registers, which have these widths, bit 0 nearest TDO.
+    pub fn new(scan: &Scan<'a>, widths: &'a [u32], bits: &'a Bits) -> WriteBits<'a>
+        requires widths { widths.now ≡ group_widths scan.now.layout scan.now.group (own_codes scan.now) }
+        requires long { length bits.now.bits ≡ own_length scan.now.layout scan.now.group (own_codes scan.now) }
+        ensures { ⟦<WriteBits<'a> as BitSource>⟧.left result ≡ joined (written scan.now.layout scan.now.group (own_codes scan.now) bits.now.bits) }
     {
         WriteBits {
-            runs: Runs::new(scan),
+            runs: Runs::new(scan, widths),
             bits,
             at: 0,
         }

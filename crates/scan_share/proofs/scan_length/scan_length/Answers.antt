@@ -1,29 +1,34 @@
-use Rattle.std.proofs.Common.{◌∙◌, sym, ap, arith, length}
+use Rattle.std.proofs.Common.{◌∙◌, ap, arith, length, ℕ}
+use Rattle.std.specs.List.{sum_by}
 use Rattle.grant_table.specs.Layouts.{group_of}
-use Rattle.scan_share.proofs.Ready.{coded, count_is}
-use Rattle.scan_share.proofs.Totals.{bits_at}
+use Rattle.scan_share.proofs.Ready.{coded, count_is, widths_counted}
 use Rattle.scan_share.proofs.scan_length.scan_length.Goals as goal
 
-pub own_length-requires-clause-coded : goal.own_length-requires-clause-coded
-own_length-requires-clause-coded c =
-    coded c.args.layout.now (group_of c.args.layout.now.grants c.args.grant) c.args.codes.now c.members-group.ensures.group c.requires.codes ∙ ap length (sym c.members-group.ensures.is)
+pub total-requires : goal.total-requires
+total-requires c = record {
+  few = omega (
+    arith,
+    ap length c.requires.widths,
+    widths_counted c.args.layout.now (group_of c.args.layout.now.grants c.args.grant) c.args.codes.now c.members-group.ensures.group c.requires.codes,
+    ap length c.members-group.ensures.is,
+    c.members-group.ensures.few,
+  );
+}
 
 pub overflow_sub-result : goal.overflow_sub-result
 overflow_sub-result c =
     omega (
       arith,
-      count_is c.args.layout.now (group_of c.args.layout.now.grants c.args.grant) c.args.codes.now c.own_length.result c.devices.result (length c.members-group.result.now)
-          c.members-group.ensures.group c.requires.codes
-          (c.own_length.ensures.is ∙ ap (λ g. bits_at c.args.layout.now.parts g c.args.codes.now) c.members-group.ensures.is) c.devices.ensures.is (ap length c.members-group.ensures.is),
+      count_is c.args.layout.now (group_of c.args.layout.now.grants c.args.grant) c.args.codes.now c.total.result c.devices.result (length c.members-group.result.now) c.members-group.ensures.group c.requires.codes
+          (c.total.ensures.is ∙ ap (sum_by (λ (w : ℕ). w)) c.requires.widths) c.devices.ensures.is (ap length c.members-group.ensures.is),
     )
 
 pub returns-clause-is : goal.returns-clause-is
 returns-clause-is c =
     omega (
       arith,
-      count_is c.args.layout.now (group_of c.args.layout.now.grants c.args.grant) c.args.codes.now c.own_length.result c.devices.result (length c.members-group.result.now)
-          c.members-group.ensures.group c.requires.codes
-          (c.own_length.ensures.is ∙ ap (λ g. bits_at c.args.layout.now.parts g c.args.codes.now) c.members-group.ensures.is) c.devices.ensures.is (ap length c.members-group.ensures.is),
+      count_is c.args.layout.now (group_of c.args.layout.now.grants c.args.grant) c.args.codes.now c.total.result c.devices.result (length c.members-group.result.now) c.members-group.ensures.group c.requires.codes
+          (c.total.ensures.is ∙ ap (sum_by (λ (w : ℕ). w)) c.requires.widths) c.devices.ensures.is (ap length c.members-group.ensures.is),
     )
 
 pub returns-clause-few : goal.returns-clause-few

@@ -1,16 +1,34 @@
-use Rattle.std.proofs.Common.{◌∙◌, ◌<◌, ◌^◌, ap, sym, subst, ℕ, Some, List, Bool}
+use Rattle.std.proofs.Common.{◌∙◌, ◌<◌, ap, sym, subst, arith, length}
 use Rattle.std.specs.Prelude.{slice_get}
-use Rattle.scan_bits.specs.Words.{bits_of}
 use Rattle.scan_share.specs.Rows.{ScanView}
-use Rattle.scan_share.proofs.Places.{bypass_bits, bypass_below}
+use Rattle.scan_share.proofs.Places.{other_code}
+use Rattle.scan_share.proofs.Splits.{own_counted, own_word, split_own, split_other}
 use Rattle.scan_share.proofs.scan.Scan.code.Goals as goal
 
-pub returns-in-None-clause-is : goal.returns-in-None-clause-is
-returns-in-None-clause-is c =
-    let other = c.in-None.ensures c.part-part.result.now (ap (λ (v : ScanView). slice_get v.layout.parts c.args.place) (sym c.self.view_is) ∙ c.part-part.ensures.is) in
-    other.0 ∙ ap (λ (bits : List Bool). Some bits)
-    (sym (bypass_bits c.part-part.result.now.ir_length c.bypass_code.result c.bypass_code.ensures) ∙ ap (λ (n : ℕ). bits_of n c.bypass_code.result) (sym c.ir_len-count.ensures.is))
+pub bounds-codes-own : goal.bounds-codes-own
+bounds-codes-own c =
+    subst (λ (v : ScanView). c.args.own < length v.codes) (sym c.self.view_is) (own_counted c.args.self.now c.args.own c.args.place c.is_own.ensures.scan (c.is_own.ensures.own c.if-is_own.true))
 
-pub returns-in-None-clause-bound : goal.returns-in-None-clause-bound
-returns-in-None-clause-bound c =
-    subst (λ (n : ℕ). c.bypass_code.result < 2 ^ n) (sym c.ir_len-count.ensures.is) (bypass_below c.part-part.result.now.ir_length c.bypass_code.result c.bypass_code.ensures)
+pub overflow_add-result : goal.overflow_add-result
+overflow_add-result c =
+    let bound = subst (λ (v : ScanView). c.args.own < length v.codes) (sym c.self.view_is) (own_counted c.args.self.now c.args.own c.args.place c.is_own.ensures.scan (c.is_own.ensures.own c.if-is_own.true)) in
+    let room = c.self.told.1.1 in
+    omega (arith, bound, room)
+
+pub returns-then-is_own-clause-code : goal.returns-then-is_own-clause-code
+returns-then-is_own-clause-code c =
+    rw (← c.self.view_is)
+    (own_word _ c.args.own c.args.place c.self.invariant (rw (← c.self.view_is) at c.requires.within) (rw (← c.self.view_is) at (c.is_own.ensures.own c.if-is_own.true)))
+
+pub returns-then-is_own-clause-split : goal.returns-then-is_own-clause-split
+returns-then-is_own-clause-split c =
+    split_own c.args.self.now.group c.args.own c.args.place c.is_own.ensures.scan.rising c.requires.split (c.is_own.ensures.own c.if-is_own.true)
+
+pub returns-clause-code : goal.returns-clause-code
+returns-clause-code c =
+    other_code c.args.self.now c.args.place c.bypass_code.result c.part.result.now c.is_own.ensures.scan
+    (ap (λ (v : ScanView). slice_get v.layout.parts c.args.place) (sym c.self.view_is) ∙ c.part.ensures.is) (c.is_own.ensures.other c.if-is_own.false) c.bypass_code.ensures
+
+pub returns-clause-split : goal.returns-clause-split
+returns-clause-split c =
+    split_other c.args.self.now.group c.args.own c.args.place c.is_own.ensures.scan.rising c.requires.split (c.is_own.ensures.other c.if-is_own.false)
