@@ -1,13 +1,14 @@
 -- The parts of a scan of the shared chain, over a cable that may tell its chain.
 use Rattle.std.specs.Prelude.{ℕ, ◌+◌, ◌≡◌, Bool, true, false, List, [], ◌∷◌, ◌++◌, length}
 use Rattle.std.specs.declared.option.Option.{Option}
-use Rattle.base_types.specs.Tellings.{Both, TakesFirst}
+use Rattle.base_types.specs.Tellings.{Both, TakesFirst, Told}
 use Rattle.chain_model.specs.Chains.{ChainState}
 use Rattle.chain_model.specs.Cycles.{Clock, after_calls, after_cycles, answers}
 use Rattle.grant_table.specs.Layouts.{LayoutShape}
 use Rattle.scan_walks.specs.Walks.{with_tms, calls_for}
 use Rattle.scan_share.specs.Scans.{Captures, IsReadOut, scan_length}
 use Rattle.scan_share.specs.Laws.{own_bits}
+use Rattle.scan_share.specs.Views.{IsLoadedFor, OpenWith}
 use Rattle.scan_share.specs.Walks.{load_walk, capture_walk, shift_out}
 
 -- the chain, where it is told, made these cycles in so many calls
@@ -58,3 +59,9 @@ pub record ReadsGroup (layout : LayoutShape) (group : List ℕ) (codes : List (L
   pub held : (more : List Bool) → holds_after more ≡ holds (out ++ more)
   pub captures : Both before after (Captures layout group codes (own_bits layout group codes out))
   pub read : Both ahead ahead_after (λ told left. IsReadOut layout group codes told left (own_bits layout group codes out))
+
+-- the chain has an open scan under these codes of a grant
+pub record IsOpenUnder (layout : LayoutShape) (grant : ℕ) (words : List ℕ) (chain : Option ChainState) : Type 0 where
+  pub loaded : List ℕ
+  pub loaded_is : IsLoadedFor layout grant words loaded
+  pub open_is : Told chain (OpenWith loaded)

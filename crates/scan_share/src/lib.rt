@@ -12,6 +12,7 @@ ghost use Rattle.scan_share.specs.Laws.{LoadAndCapture, CaptureLoaded, WriteUpda
 
 mod code_bits;
 mod codes;
+mod group_scans;
 mod members;
 mod own_bits;
 mod pieces;

@@ -3,28 +3,22 @@ ghost use Rattle.std.specs.Prelude.{◌≡◌, ◌≤◌, ◌<◌, List, Bool, l
 ghost use Rattle.base_types.specs.Counts.{HasCause};
 ghost use Rattle.base_types.specs.Tellings.{Told, Both};
 ghost use Rattle.tap_states.specs.declared.Tap.TheVariants.{TestLogicReset};
-ghost use Rattle.scan_bits.specs.Registers.{joined};
 ghost use Rattle.grant_table.specs.Layouts.{group_of};
 ghost use Rattle.scan_share.specs.PrivateChains.{entries_at};
-ghost use Rattle.scan_share.specs.Scans.{Starts, Captures, IsReadOut, Updates, Abandons, IsWhole, codes_during, scan_length};
-ghost use Rattle.scan_share.specs.Written.{group_widths, written};
+ghost use Rattle.scan_share.specs.Scans.{Starts, Captures, IsReadOut, Updates, Abandons, IsWhole};
 ghost use Rattle.scan_share.specs.Codes.{AreCodes};
-ghost use Rattle.scan_share.specs.Laws.{own_bits};
 ghost use Rattle.scan_share.specs.Views.{parked_or_broken, open_or_broken, AsksAtMost, IsLoadedFor, codes_for, own_width, capture_calls, update_calls};
 
-use crate::code_bits::CodeBits;
-use crate::codes::{Codes, copy_of, load, reset_codes};
+use crate::codes::{Codes, copy_of, reset_codes};
+use crate::group_scans::{capture_to, update_from};
 use crate::members::members;
 use crate::own_bits::OwnBits;
 use crate::runs::Runs;
 use crate::scan::Scan;
-use crate::scan_length::scan_length;
-use crate::walks::{scan_out, write};
 use crate::write_bits::WriteBits;
 use chain_model::Cable;
 use grant_table::Layout;
 use scan_bits::Bits;
-use scan_walks::{BitSink, BitSource};
 use std::marker::Model;
 
 /// A shared chain at rest: its TAP controllers are in Run-Test/Idle, and no scan is open. It owns the cable, and knows the instruction
@@ -131,57 +125,24 @@ impl<C: Cable> Parked<C> {
         ensures trst { C.trst (open_or_broken result) ≡ C.trst self.cable }
         ensures cause { HasCause (C.fault_count self.cable) (C.fault_count (open_or_broken result)) result }
     {
+        let Parked {
+            mut cable,
+            mut loaded,
+        } = self;
         let group = members(layout, grant);
         let scan = Scan::new(layout, group, codes);
         let widths = scan.widths();
         into.clear();
         let mut runs = Runs::new(&scan, &widths);
         let mut sink = OwnBits::new(&mut runs, into);
-        self.capture_by(layout, grant, codes, &widths, &mut sink)
-    }
-
-    // Captures with the bits read out to a sink, where the registers have these widths.
-    fn capture_by<'a, 'b>(
-        self,
-        layout: &Layout,
-        grant: usize,
-        codes: &[u64],
-        widths: &[u32],
-        sink: &mut OwnBits<'a, 'b>,
-    ) -> Result<Open<C>, Broken<C>>
-        requires grant { grant < length layout.now.grants }
-        requires codes { AreCodes (entries_at layout.now.parts (group_of layout.now.grants grant)) codes.now }
-        requires widths { widths.now ≡ group_widths layout.now (group_of layout.now.grants grant) (codes_for layout.now grant codes.now) }
-        requires room { scan_length layout.now (group_of layout.now.grants grant) (codes_for layout.now grant codes.now) ≤ ⟦<OwnBits<'a, 'b> as BitSink>⟧.room sink.old }
-        requires kept { (out : List Bool) → length out ≡ scan_length layout.now (group_of layout.now.grants grant) (codes_for layout.now grant codes.now) → ⟦<OwnBits<'a, 'b> as BitSink>⟧.holds sink.old out ≡ own_bits layout.now (group_of layout.now.grants grant) (codes_for layout.now grant codes.now) out }
-        requires whole { Told (C.chain self.cable) (IsWhole layout.now) }
-        ensures captured { IfOk result (λ held. Both (C.chain self.cable) (C.chain held.cable) (Captures layout.now (group_of layout.now.grants grant) (codes_for layout.now grant codes.now) sink.new.into.now.bits)) }
-        ensures whole { IfOk result (λ held. Told (C.chain held.cable) (IsWhole layout.now)) }
-        ensures loaded { IfOk result (λ held. IsLoadedFor layout.now grant codes.now held.loaded) }
-        ensures told { IfOk result (λ held. (held.grant ≡ grant) × (held.codes ≡ codes.now)) }
-        ensures asked { IfOk result (λ held. Both (C.chain self.cable) (C.chain held.cable) (AsksAtMost (capture_calls layout.now grant codes.now))) }
-        ensures read { IfOk result (λ held. Both (C.ahead self.cable) (C.ahead held.cable) (λ before after. IsReadOut layout.now (group_of layout.now.grants grant) (codes_for layout.now grant codes.now) before after sink.new.into.now.bits)) }
-        ensures length { OnOk result (length sink.new.into.now.bits ≡ own_width layout.now grant codes.now) }
-        ensures room { sink.new.into.now.room ≡ sink.old.into.now.room }
-        ensures reference { sink.new.into.ghost_name ≡ sink.old.into.ghost_name }
-        ensures mark { C.mark (open_or_broken result) ≡ C.mark self.cable }
-        ensures trst { C.trst (open_or_broken result) ≡ C.trst self.cable }
-        ensures cause { HasCause (C.fault_count self.cable) (C.fault_count (open_or_broken result)) result }
-    {
-        let Parked {
-            mut cable,
-            mut loaded,
-        } = self;
-        let count = scan_length(layout, grant, codes, widths);
-        let is_loaded = load(layout, grant, codes, &mut loaded);
-        let mut source = CodeBits::new(layout, &loaded);
-        match scan_out(
+        match capture_to(
             &mut cable,
-            &mut source,
-            layout.ir_total(),
-            is_loaded,
-            sink,
-            count,
+            layout,
+            grant,
+            codes,
+            &mut loaded,
+            &widths,
+            &mut sink,
         ) {
             Ok(()) => Ok(Open {
                 cable,
@@ -241,45 +202,17 @@ impl<C: Cable> Open<C> {
         ensures trst { C.trst (parked_or_broken result) ≡ C.trst self.cable }
         ensures cause { HasCause (C.fault_count self.cable) (C.fault_count (parked_or_broken result)) result }
     {
-        let group = members(layout, grant);
-        let scan = Scan::new(layout, group, codes);
-        let widths = scan.widths();
-        let mut source = WriteBits::new(&scan, &widths, bits);
-        self.update_by(layout, grant, codes, bits, &widths, &mut source)
-    }
-
-    // Updates from a source of all bits of the scan, where the registers have these widths.
-    fn update_by<S: BitSource>(
-        self,
-        layout: &Layout,
-        grant: usize,
-        codes: &[u64],
-        bits: &Bits,
-        widths: &[u32],
-        source: &mut S,
-    ) -> Result<Parked<C>, Broken<C>>
-        requires grant { grant < length layout.now.grants }
-        requires codes { AreCodes (entries_at layout.now.parts (group_of layout.now.grants grant)) codes.now }
-        requires loaded { IsLoadedFor layout.now grant codes.now self.loaded }
-        requires long { length bits.now.bits ≡ own_width layout.now grant codes.now }
-        requires widths { widths.now ≡ group_widths layout.now (group_of layout.now.grants grant) (codes_for layout.now grant codes.now) }
-        requires source { S.left source.old ≡ joined (written layout.now (group_of layout.now.grants grant) (codes_for layout.now grant codes.now) bits.now.bits) }
-        requires whole { Told (C.chain self.cable) (IsWhole layout.now) }
-        ensures updated { IfOk result (λ parked. Both (C.chain self.cable) (C.chain parked.cable) (Updates layout.now (group_of layout.now.grants grant) (codes_for layout.now grant codes.now) bits.now.bits)) }
-        ensures whole { IfOk result (λ parked. Told (C.chain parked.cable) (IsWhole layout.now)) }
-        ensures asked { IfOk result (λ parked. Both (C.chain self.cable) (C.chain parked.cable) (AsksAtMost (update_calls layout.now grant codes.now))) }
-        ensures mark { C.mark (parked_or_broken result) ≡ C.mark self.cable }
-        ensures trst { C.trst (parked_or_broken result) ≡ C.trst self.cable }
-        ensures cause { HasCause (C.fault_count self.cable) (C.fault_count (parked_or_broken result)) result }
-    {
         let Open {
             mut cable,
             loaded,
             grant: _,
             codes: _,
         } = self;
-        let count = scan_length(layout, grant, codes, widths);
-        match write(&mut cable, source, count) {
+        let group = members(layout, grant);
+        let scan = Scan::new(layout, group, codes);
+        let widths = scan.widths();
+        let mut source = WriteBits::new(&scan, &widths, bits);
+        match update_from(&mut cable, layout, grant, codes, bits, &widths, &mut source) {
             Ok(()) => Ok(Parked { cable, loaded }),
             Err(_) => Err(Broken { cable }),
         }

@@ -4,7 +4,7 @@ use Rattle.grant_table.specs.Layouts.{group_of}
 use Rattle.scan_share.proofs.Ready.{scan_is, load_long, load_some, scan_some}
 use Rattle.scan_share.proofs.Loading.{source_is, loaded_are_codes}
 use Rattle.scan_share.proofs.Answered.{capture_left}
-use Rattle.scan_share.proofs.states.Parked.capture_by.Goals as goal
+use Rattle.scan_share.proofs.group_scans.capture_to.Goals as goal
 
 pub scan_out-requires-clause-codes : goal.scan_out-requires-clause-codes
 scan_out-requires-clause-codes g c = rw c.ir_total.ensures.is (
@@ -23,58 +23,56 @@ pub scan_out-requires-clause-some : goal.scan_out-requires-clause-some
 scan_out-requires-clause-some g c = rw c.scan_length-count.ensures.is
     (scan_some c.args.layout.now (group_of c.args.layout.now.grants c.args.grant) (codes_for c.args.layout.now c.args.grant c.args.codes.now) c.scan_length-count.ensures.parts c.scan_length-count.ensures.some)
 
-pub returns-in-Ok-clause-captured : goal.returns-in-Ok-clause-captured
-returns-in-Ok-clause-captured g c =
-    rw (← c.self.view_is) (capture_left c.args.layout.now c.args.grant c.args.codes.now c.self.inside.loaded.items c.load-is_loaded.new.loaded.items c.load-is_loaded.result
-    c.new-source.result c.scan_length-count.result (g.C.Cable.chain c.self.inside.cable) (g.C.Cable.chain c.scan_out.new.cable) (g.C.Cable.ahead c.self.inside.cable) (g.C.Cable.ahead c.scan_out.new.cable)
+pub returns-clause-captured : goal.returns-clause-captured
+returns-clause-captured g c =
+    (capture_left c.args.layout.now c.args.grant c.args.codes.now c.args.loaded.now.items c.load-is_loaded.new.loaded.items c.load-is_loaded.result
+    c.new-source.result c.scan_length-count.result (g.C.Cable.chain c.args.cable.now) (g.C.Cable.chain c.scan_out.new.cable) (g.C.Cable.ahead c.args.cable.now) (g.C.Cable.ahead c.scan_out.new.cable)
     c.args.sink.now.into.now.bits c.args.sink.now.runs.now c.scan_out.new.sink.into.now.bits c.scan_out.new.sink.runs.now
     c.scan_length-count.ensures.parts c.scan_length-count.ensures.some c.scan_length-count.ensures.group c.requires.codes (source_is c.args.layout.now c.args.grant c.args.codes.now c.deref.result.now c.new-source.result (scan_is c.args.layout.now (group_of c.args.layout.now.grants c.args.grant) c.args.codes.now c.scan_length-count.ensures.parts c.scan_length-count.ensures.some c.scan_length-count.ensures.group c.requires.codes) (c.deref.ensures.0 ∙ c.load-is_loaded.ensures.is) c.new-source.ensures)
     c.scan_length-count.ensures.is c.load-is_loaded.ensures.is
-    c.load-is_loaded.ensures.same c.load-is_loaded.ensures.differ (rw (← c.self.view_is) at c.requires.whole) c.self.invariant.1 c.in-Ok.ensures.scanned c.requires.kept).captured
+    c.load-is_loaded.ensures.same c.load-is_loaded.ensures.differ c.requires.whole c.requires.rests c.in_ok-scan_out.ensures.scanned c.requires.kept).captured
 
-pub returns-in-Ok-clause-read : goal.returns-in-Ok-clause-read
-returns-in-Ok-clause-read g c =
-    rw (← c.self.view_is) (capture_left c.args.layout.now c.args.grant c.args.codes.now c.self.inside.loaded.items c.load-is_loaded.new.loaded.items c.load-is_loaded.result
-    c.new-source.result c.scan_length-count.result (g.C.Cable.chain c.self.inside.cable) (g.C.Cable.chain c.scan_out.new.cable) (g.C.Cable.ahead c.self.inside.cable) (g.C.Cable.ahead c.scan_out.new.cable)
+pub returns-clause-read : goal.returns-clause-read
+returns-clause-read g c =
+    (capture_left c.args.layout.now c.args.grant c.args.codes.now c.args.loaded.now.items c.load-is_loaded.new.loaded.items c.load-is_loaded.result
+    c.new-source.result c.scan_length-count.result (g.C.Cable.chain c.args.cable.now) (g.C.Cable.chain c.scan_out.new.cable) (g.C.Cable.ahead c.args.cable.now) (g.C.Cable.ahead c.scan_out.new.cable)
     c.args.sink.now.into.now.bits c.args.sink.now.runs.now c.scan_out.new.sink.into.now.bits c.scan_out.new.sink.runs.now
     c.scan_length-count.ensures.parts c.scan_length-count.ensures.some c.scan_length-count.ensures.group c.requires.codes (source_is c.args.layout.now c.args.grant c.args.codes.now c.deref.result.now c.new-source.result (scan_is c.args.layout.now (group_of c.args.layout.now.grants c.args.grant) c.args.codes.now c.scan_length-count.ensures.parts c.scan_length-count.ensures.some c.scan_length-count.ensures.group c.requires.codes) (c.deref.ensures.0 ∙ c.load-is_loaded.ensures.is) c.new-source.ensures)
     c.scan_length-count.ensures.is c.load-is_loaded.ensures.is
-    c.load-is_loaded.ensures.same c.load-is_loaded.ensures.differ (rw (← c.self.view_is) at c.requires.whole) c.self.invariant.1 c.in-Ok.ensures.scanned c.requires.kept).read
+    c.load-is_loaded.ensures.same c.load-is_loaded.ensures.differ c.requires.whole c.requires.rests c.in_ok-scan_out.ensures.scanned c.requires.kept).read
 
-pub returns-in-Ok-clause-length : goal.returns-in-Ok-clause-length
-returns-in-Ok-clause-length g c =
-    (capture_left c.args.layout.now c.args.grant c.args.codes.now c.self.inside.loaded.items c.load-is_loaded.new.loaded.items c.load-is_loaded.result
-    c.new-source.result c.scan_length-count.result (g.C.Cable.chain c.self.inside.cable) (g.C.Cable.chain c.scan_out.new.cable) (g.C.Cable.ahead c.self.inside.cable) (g.C.Cable.ahead c.scan_out.new.cable)
+pub returns-clause-length : goal.returns-clause-length
+returns-clause-length g c =
+    (capture_left c.args.layout.now c.args.grant c.args.codes.now c.args.loaded.now.items c.load-is_loaded.new.loaded.items c.load-is_loaded.result
+    c.new-source.result c.scan_length-count.result (g.C.Cable.chain c.args.cable.now) (g.C.Cable.chain c.scan_out.new.cable) (g.C.Cable.ahead c.args.cable.now) (g.C.Cable.ahead c.scan_out.new.cable)
     c.args.sink.now.into.now.bits c.args.sink.now.runs.now c.scan_out.new.sink.into.now.bits c.scan_out.new.sink.runs.now
     c.scan_length-count.ensures.parts c.scan_length-count.ensures.some c.scan_length-count.ensures.group c.requires.codes (source_is c.args.layout.now c.args.grant c.args.codes.now c.deref.result.now c.new-source.result (scan_is c.args.layout.now (group_of c.args.layout.now.grants c.args.grant) c.args.codes.now c.scan_length-count.ensures.parts c.scan_length-count.ensures.some c.scan_length-count.ensures.group c.requires.codes) (c.deref.ensures.0 ∙ c.load-is_loaded.ensures.is) c.new-source.ensures)
     c.scan_length-count.ensures.is c.load-is_loaded.ensures.is
-    c.load-is_loaded.ensures.same c.load-is_loaded.ensures.differ (rw (← c.self.view_is) at c.requires.whole) c.self.invariant.1 c.in-Ok.ensures.scanned c.requires.kept).long
+    c.load-is_loaded.ensures.same c.load-is_loaded.ensures.differ c.requires.whole c.requires.rests c.in_ok-scan_out.ensures.scanned c.requires.kept).long
 
-pub returns-in-Ok-clause-whole : goal.returns-in-Ok-clause-whole
-returns-in-Ok-clause-whole g c =
-    (capture_left c.args.layout.now c.args.grant c.args.codes.now c.self.inside.loaded.items c.load-is_loaded.new.loaded.items c.load-is_loaded.result
-    c.new-source.result c.scan_length-count.result (g.C.Cable.chain c.self.inside.cable) (g.C.Cable.chain c.scan_out.new.cable) (g.C.Cable.ahead c.self.inside.cable) (g.C.Cable.ahead c.scan_out.new.cable)
+pub returns-clause-whole : goal.returns-clause-whole
+returns-clause-whole g c =
+    (capture_left c.args.layout.now c.args.grant c.args.codes.now c.args.loaded.now.items c.load-is_loaded.new.loaded.items c.load-is_loaded.result
+    c.new-source.result c.scan_length-count.result (g.C.Cable.chain c.args.cable.now) (g.C.Cable.chain c.scan_out.new.cable) (g.C.Cable.ahead c.args.cable.now) (g.C.Cable.ahead c.scan_out.new.cable)
     c.args.sink.now.into.now.bits c.args.sink.now.runs.now c.scan_out.new.sink.into.now.bits c.scan_out.new.sink.runs.now
     c.scan_length-count.ensures.parts c.scan_length-count.ensures.some c.scan_length-count.ensures.group c.requires.codes (source_is c.args.layout.now c.args.grant c.args.codes.now c.deref.result.now c.new-source.result (scan_is c.args.layout.now (group_of c.args.layout.now.grants c.args.grant) c.args.codes.now c.scan_length-count.ensures.parts c.scan_length-count.ensures.some c.scan_length-count.ensures.group c.requires.codes) (c.deref.ensures.0 ∙ c.load-is_loaded.ensures.is) c.new-source.ensures)
     c.scan_length-count.ensures.is c.load-is_loaded.ensures.is
-    c.load-is_loaded.ensures.same c.load-is_loaded.ensures.differ (rw (← c.self.view_is) at c.requires.whole) c.self.invariant.1 c.in-Ok.ensures.scanned c.requires.kept).whole
+    c.load-is_loaded.ensures.same c.load-is_loaded.ensures.differ c.requires.whole c.requires.rests c.in_ok-scan_out.ensures.scanned c.requires.kept).whole
 
-pub returns-in-Ok-clause-asked : goal.returns-in-Ok-clause-asked
-returns-in-Ok-clause-asked g c =
-    rw (← c.self.view_is) (capture_left c.args.layout.now c.args.grant c.args.codes.now c.self.inside.loaded.items c.load-is_loaded.new.loaded.items c.load-is_loaded.result
-    c.new-source.result c.scan_length-count.result (g.C.Cable.chain c.self.inside.cable) (g.C.Cable.chain c.scan_out.new.cable) (g.C.Cable.ahead c.self.inside.cable) (g.C.Cable.ahead c.scan_out.new.cable)
+pub returns-clause-asked : goal.returns-clause-asked
+returns-clause-asked g c =
+    (capture_left c.args.layout.now c.args.grant c.args.codes.now c.args.loaded.now.items c.load-is_loaded.new.loaded.items c.load-is_loaded.result
+    c.new-source.result c.scan_length-count.result (g.C.Cable.chain c.args.cable.now) (g.C.Cable.chain c.scan_out.new.cable) (g.C.Cable.ahead c.args.cable.now) (g.C.Cable.ahead c.scan_out.new.cable)
     c.args.sink.now.into.now.bits c.args.sink.now.runs.now c.scan_out.new.sink.into.now.bits c.scan_out.new.sink.runs.now
     c.scan_length-count.ensures.parts c.scan_length-count.ensures.some c.scan_length-count.ensures.group c.requires.codes (source_is c.args.layout.now c.args.grant c.args.codes.now c.deref.result.now c.new-source.result (scan_is c.args.layout.now (group_of c.args.layout.now.grants c.args.grant) c.args.codes.now c.scan_length-count.ensures.parts c.scan_length-count.ensures.some c.scan_length-count.ensures.group c.requires.codes) (c.deref.ensures.0 ∙ c.load-is_loaded.ensures.is) c.new-source.ensures)
     c.scan_length-count.ensures.is c.load-is_loaded.ensures.is
-    c.load-is_loaded.ensures.same c.load-is_loaded.ensures.differ (rw (← c.self.view_is) at c.requires.whole) c.self.invariant.1 c.in-Ok.ensures.scanned c.requires.kept).asked
+    c.load-is_loaded.ensures.same c.load-is_loaded.ensures.differ c.requires.whole c.requires.rests c.in_ok-scan_out.ensures.scanned c.requires.kept).asked
 
-pub invariant_of-result : goal.invariant_of-result
-invariant_of-result g c = (
-  c.in-Ok.ensures.devices,
-  (capture_left c.args.layout.now c.args.grant c.args.codes.now c.self.inside.loaded.items c.load-is_loaded.new.loaded.items c.load-is_loaded.result
-      c.new-source.result c.scan_length-count.result (g.C.Cable.chain c.self.inside.cable) (g.C.Cable.chain c.scan_out.new.cable) (g.C.Cable.ahead c.self.inside.cable) (g.C.Cable.ahead c.scan_out.new.cable)
-      c.args.sink.now.into.now.bits c.args.sink.now.runs.now c.scan_out.new.sink.into.now.bits c.scan_out.new.sink.runs.now
-      c.scan_length-count.ensures.parts c.scan_length-count.ensures.some c.scan_length-count.ensures.group c.requires.codes (source_is c.args.layout.now c.args.grant c.args.codes.now c.deref.result.now c.new-source.result (scan_is c.args.layout.now (group_of c.args.layout.now.grants c.args.grant) c.args.codes.now c.scan_length-count.ensures.parts c.scan_length-count.ensures.some c.scan_length-count.ensures.group c.requires.codes) (c.deref.ensures.0 ∙ c.load-is_loaded.ensures.is) c.new-source.ensures)
-      c.scan_length-count.ensures.is c.load-is_loaded.ensures.is
-      c.load-is_loaded.ensures.same c.load-is_loaded.ensures.differ (rw (← c.self.view_is) at c.requires.whole) c.self.invariant.1 c.in-Ok.ensures.scanned c.requires.kept).held,
-)
+pub returns-clause-open : goal.returns-clause-open
+returns-clause-open g c =
+    (capture_left c.args.layout.now c.args.grant c.args.codes.now c.args.loaded.now.items c.load-is_loaded.new.loaded.items c.load-is_loaded.result
+    c.new-source.result c.scan_length-count.result (g.C.Cable.chain c.args.cable.now) (g.C.Cable.chain c.scan_out.new.cable) (g.C.Cable.ahead c.args.cable.now) (g.C.Cable.ahead c.scan_out.new.cable)
+    c.args.sink.now.into.now.bits c.args.sink.now.runs.now c.scan_out.new.sink.into.now.bits c.scan_out.new.sink.runs.now
+    c.scan_length-count.ensures.parts c.scan_length-count.ensures.some c.scan_length-count.ensures.group c.requires.codes (source_is c.args.layout.now c.args.grant c.args.codes.now c.deref.result.now c.new-source.result (scan_is c.args.layout.now (group_of c.args.layout.now.grants c.args.grant) c.args.codes.now c.scan_length-count.ensures.parts c.scan_length-count.ensures.some c.scan_length-count.ensures.group c.requires.codes) (c.deref.ensures.0 ∙ c.load-is_loaded.ensures.is) c.new-source.ensures)
+    c.scan_length-count.ensures.is c.load-is_loaded.ensures.is
+    c.load-is_loaded.ensures.same c.load-is_loaded.ensures.differ c.requires.whole c.requires.rests c.in_ok-scan_out.ensures.scanned c.requires.kept).held

@@ -1,0 +1,102 @@
+// Captures and updates for a grant, over the cable of the shared chain.
+ghost use Rattle.std.specs.Prelude.{◌≡◌, ◌≤◌, ◌<◌, List, Bool, length, OnOk};
+ghost use Rattle.base_types.specs.Counts.{HasCause};
+ghost use Rattle.base_types.specs.Tellings.{Told, Both};
+ghost use Rattle.scan_bits.specs.Registers.{joined};
+ghost use Rattle.chain_model.specs.Cables.{HasDevice};
+ghost use Rattle.grant_table.specs.Layouts.{group_of};
+ghost use Rattle.scan_share.specs.PrivateChains.{entries_at};
+ghost use Rattle.scan_share.specs.Scans.{Captures, IsReadOut, Updates, IsWhole, scan_length};
+ghost use Rattle.scan_share.specs.Written.{group_widths, written};
+ghost use Rattle.scan_share.specs.Codes.{AreCodes};
+ghost use Rattle.scan_share.specs.Laws.{own_bits};
+ghost use Rattle.scan_share.specs.Parts.{IsOpenUnder};
+ghost use Rattle.scan_share.specs.Views.{AsksAtMost, IsLoadedFor, OpenWith, RestsWith, codes_for, own_width, capture_calls, update_calls};
+
+use crate::code_bits::CodeBits;
+use crate::codes::{Codes, load};
+use crate::own_bits::OwnBits;
+use crate::scan_length::scan_length;
+use crate::walks::{scan_out, write};
+use chain_model::{Cable, CableFault};
+use grant_table::Layout;
+use scan_bits::Bits;
+use scan_walks::{BitSink, BitSource};
+
+/// Captures for a grant whose registers have these widths, from Run-Test/Idle to Pause-DR, and hands the bits read out to a sink. The
+/// codes that are loaded are then those of the scan.
+pub fn capture_to<'a, 'b, C: Cable>(
+    cable: &mut C,
+    layout: &Layout,
+    grant: usize,
+    codes: &[u64],
+    loaded: &mut Codes,
+    widths: &[u32],
+    sink: &mut OwnBits<'a, 'b>,
+) -> Result<(), CableFault>
+    requires grant { grant < length layout.now.grants }
+    requires codes { AreCodes (entries_at layout.now.parts (group_of layout.now.grants grant)) codes.now }
+    requires widths { widths.now ≡ group_widths layout.now (group_of layout.now.grants grant) (codes_for layout.now grant codes.now) }
+    requires room { scan_length layout.now (group_of layout.now.grants grant) (codes_for layout.now grant codes.now) ≤ ⟦<OwnBits<'a, 'b> as BitSink>⟧.room sink.old }
+    requires kept { (out : List Bool) → length out ≡ scan_length layout.now (group_of layout.now.grants grant) (codes_for layout.now grant codes.now) → ⟦<OwnBits<'a, 'b> as BitSink>⟧.holds sink.old out ≡ own_bits layout.now (group_of layout.now.grants grant) (codes_for layout.now grant codes.now) out }
+    requires whole { Told (C.chain cable.old) (IsWhole layout.now) }
+    requires devices { Told (C.chain cable.old) HasDevice }
+    requires rests { Told (C.chain cable.old) (RestsWith loaded.old.items) }
+    ensures captured { OnOk result (Both (C.chain cable.old) (C.chain cable.new) (Captures layout.now (group_of layout.now.grants grant) (codes_for layout.now grant codes.now) sink.new.into.now.bits)) }
+    ensures whole { OnOk result (Told (C.chain cable.new) (IsWhole layout.now)) }
+    ensures devices { OnOk result (Told (C.chain cable.new) HasDevice) }
+    ensures loaded { IsLoadedFor layout.now grant codes.now loaded.new.items }
+    ensures open { OnOk result (Told (C.chain cable.new) (OpenWith loaded.new.items)) }
+    ensures asked { OnOk result (Both (C.chain cable.old) (C.chain cable.new) (AsksAtMost (capture_calls layout.now grant codes.now))) }
+    ensures read { OnOk result (Both (C.ahead cable.old) (C.ahead cable.new) (λ before after. IsReadOut layout.now (group_of layout.now.grants grant) (codes_for layout.now grant codes.now) before after sink.new.into.now.bits)) }
+    ensures length { OnOk result (length sink.new.into.now.bits ≡ own_width layout.now grant codes.now) }
+    ensures room { sink.new.into.now.room ≡ sink.old.into.now.room }
+    ensures reference { sink.new.into.ghost_name ≡ sink.old.into.ghost_name }
+    ensures mark { C.mark cable.new ≡ C.mark cable.old }
+    ensures trst { C.trst cable.new ≡ C.trst cable.old }
+    ensures cause { HasCause (C.fault_count cable.old) (C.fault_count cable.new) result }
+{
+    let count = scan_length(layout, grant, codes, widths);
+    let is_loaded = load(layout, grant, codes, loaded);
+    let mut source = CodeBits::new(layout, loaded);
+    scan_out(
+        cable,
+        &mut source,
+        layout.ir_total(),
+        is_loaded,
+        sink,
+        count,
+    )?;
+    Ok(())
+}
+
+/// Updates a grant's registers, which have these widths, from a source of all bits of the scan, from Pause-DR to Run-Test/Idle.
+pub fn update_from<C: Cable, S: BitSource>(
+    cable: &mut C,
+    layout: &Layout,
+    grant: usize,
+    codes: &[u64],
+    bits: &Bits,
+    widths: &[u32],
+    source: &mut S,
+) -> Result<(), CableFault>
+    requires grant { grant < length layout.now.grants }
+    requires codes { AreCodes (entries_at layout.now.parts (group_of layout.now.grants grant)) codes.now }
+    requires widths { widths.now ≡ group_widths layout.now (group_of layout.now.grants grant) (codes_for layout.now grant codes.now) }
+    requires long { length bits.now.bits ≡ own_width layout.now grant codes.now }
+    requires source { S.left source.old ≡ joined (written layout.now (group_of layout.now.grants grant) (codes_for layout.now grant codes.now) bits.now.bits) }
+    requires whole { Told (C.chain cable.old) (IsWhole layout.now) }
+    requires devices { Told (C.chain cable.old) HasDevice }
+    requires open { IsOpenUnder layout.now grant codes.now (C.chain cable.old) }
+    ensures updated { OnOk result (Both (C.chain cable.old) (C.chain cable.new) (Updates layout.now (group_of layout.now.grants grant) (codes_for layout.now grant codes.now) bits.now.bits)) }
+    ensures whole { OnOk result (Told (C.chain cable.new) (IsWhole layout.now)) }
+    ensures devices { OnOk result (Told (C.chain cable.new) HasDevice) }
+    ensures asked { OnOk result (Both (C.chain cable.old) (C.chain cable.new) (AsksAtMost (update_calls layout.now grant codes.now))) }
+    ensures mark { C.mark cable.new ≡ C.mark cable.old }
+    ensures trst { C.trst cable.new ≡ C.trst cable.old }
+    ensures cause { HasCause (C.fault_count cable.old) (C.fault_count cable.new) result }
+{
+    let count = scan_length(layout, grant, codes, widths);
+    write(cable, source, count)?;
+    Ok(())
+}
