@@ -21,11 +21,16 @@ use grant_table::Layout;
 use scan_bits::Bits;
 use std::marker::Model;
 
+// The cable, and the instruction code of each device of its chain, from TDI on.
+struct Line<C: Cable> {
+    cable: C,
+    loaded: Codes,
+}
+
 /// A shared chain at rest: its TAP controllers are in Run-Test/Idle, and no scan is open. It owns the cable, and knows the instruction
 /// code of each device.
 pub struct Parked<C: Cable> {
-    cable: C,
-    loaded: Codes,
+    line: Line<C>,
 }
 
 impl<C: Cable> Model for Parked<C> {
@@ -35,15 +40,14 @@ impl<C: Cable> Model for Parked<C> {
 
     ghost Value = { ParkedView C };
 
-    ghost view = { λ p. record { cable = p.cable; loaded = p.loaded.items } };
+    ghost view = { λ p. record { cable = p.line.cable; loaded = p.line.loaded.items } };
 
-    ghost invariant = { λ p. Told (C.chain p.cable) HasDevice × Told (C.chain p.cable) (RestsWith p.loaded.items) };
+    ghost invariant = { λ p. Told (C.chain p.line.cable) HasDevice × Told (C.chain p.line.cable) (RestsWith p.line.loaded.items) };
 }
 
 /// A shared chain in Pause-DR with the open scan of a grant. It owns the cable, and knows the instruction code of each device.
 pub struct Open<C: Cable> {
-    cable: C,
-    loaded: Codes,
+    line: Line<C>,
     grant: usize,
     codes: Codes,
 }
@@ -55,9 +59,9 @@ impl<C: Cable> Model for Open<C> {
 
     ghost Value = { OpenView C };
 
-    ghost view = { λ o. record { cable = o.cable; loaded = o.loaded.items; grant = o.grant; codes = o.codes.items } };
+    ghost view = { λ o. record { cable = o.line.cable; loaded = o.line.loaded.items; grant = o.grant; codes = o.codes.items } };
 
-    ghost invariant = { λ o. Told (C.chain o.cable) HasDevice × Told (C.chain o.cable) (OpenWith o.loaded.items) };
+    ghost invariant = { λ o. Told (C.chain o.line.cable) HasDevice × Told (C.chain o.line.cable) (OpenWith o.line.loaded.items) };
 }
 
 /// A cable that failed within a call. Nothing is told of its chain any more.
@@ -71,6 +75,24 @@ impl<C: Cable> Model for Broken<C> {
     ghost Value = { BrokenView C };
 
     ghost view = { λ b. record { cable = b.cable } };
+}
+
+impl<C: Cable> Line<C> {
+    // Hands the cable back.
+    fn into_cable(self) -> C
+        ensures { result ≡ self.cable }
+    {
+        let Line { cable, loaded: _ } = self;
+        cable
+    }
+
+    // The cable failed.
+    fn broken(self) -> Broken<C>
+        ensures { result ≡ record { cable = self.cable } }
+    {
+        let Line { cable, loaded: _ } = self;
+        Broken { cable }
+    }
 }
 
 impl<C: Cable> Parked<C> {
@@ -87,11 +109,11 @@ impl<C: Cable> Parked<C> {
         ensures trst { C.trst (parked_or_broken result) ≡ C.trst cable }
         ensures cause { HasCause (C.fault_count cable) (C.fault_count (parked_or_broken result)) result }
     {
-        let mut cable = cable;
         let loaded = reset_codes(layout);
-        match cable.cycles(6, 0b01_1111, 0) {
-            Ok(_) => Ok(Parked { cable, loaded }),
-            Err(_) => Err(Broken { cable }),
+        let mut line = Line { cable, loaded };
+        match line.cable.cycles(6, 0b01_1111, 0) {
+            Ok(_) => Ok(Parked { line }),
+            Err(_) => Err(line.broken()),
         }
     }
 
@@ -125,10 +147,7 @@ impl<C: Cable> Parked<C> {
         ensures trst { C.trst (open_or_broken result) ≡ C.trst self.cable }
         ensures cause { HasCause (C.fault_count self.cable) (C.fault_count (open_or_broken result)) result }
     {
-        let Parked {
-            mut cable,
-            mut loaded,
-        } = self;
+        let Parked { mut line } = self;
         let group = members(layout, grant);
         let scan = Scan::new(layout, group, codes);
         let widths = scan.widths();
@@ -136,21 +155,20 @@ impl<C: Cable> Parked<C> {
         let mut runs = Runs::new(&scan, &widths);
         let mut sink = OwnBits::new(&mut runs, into);
         match capture_to(
-            &mut cable,
+            &mut line.cable,
             layout,
             grant,
             codes,
-            &mut loaded,
+            &mut line.loaded,
             &widths,
             &mut sink,
         ) {
             Ok(()) => Ok(Open {
-                cable,
-                loaded,
+                line,
                 grant,
                 codes: copy_of(codes),
             }),
-            Err(_) => Err(Broken { cable }),
+            Err(_) => Err(line.broken()),
         }
     }
 
@@ -158,8 +176,8 @@ impl<C: Cable> Parked<C> {
     pub fn into_cable(self) -> C
         ensures { result ≡ self.cable }
     {
-        let Parked { cable, loaded: _ } = self;
-        cable
+        let Parked { line } = self;
+        line.into_cable()
     }
 }
 
@@ -203,8 +221,7 @@ impl<C: Cable> Open<C> {
         ensures cause { HasCause (C.fault_count self.cable) (C.fault_count (parked_or_broken result)) result }
     {
         let Open {
-            mut cable,
-            loaded,
+            mut line,
             grant: _,
             codes: _,
         } = self;
@@ -212,9 +229,17 @@ impl<C: Cable> Open<C> {
         let scan = Scan::new(layout, group, codes);
         let widths = scan.widths();
         let mut source = WriteBits::new(&scan, &widths, bits);
-        match update_from(&mut cable, layout, grant, codes, bits, &widths, &mut source) {
-            Ok(()) => Ok(Parked { cable, loaded }),
-            Err(_) => Err(Broken { cable }),
+        match update_from(
+            &mut line.cable,
+            layout,
+            grant,
+            codes,
+            bits,
+            &widths,
+            &mut source,
+        ) {
+            Ok(()) => Ok(Parked { line }),
+            Err(_) => Err(line.broken()),
         }
     }
 
@@ -232,19 +257,18 @@ impl<C: Cable> Open<C> {
         ensures cause { HasCause (C.fault_count self.cable) (C.fault_count (parked_or_broken result)) result }
     {
         let Open {
-            mut cable,
-            loaded: _,
+            mut line,
             grant: _,
             codes: _,
         } = self;
-        let loaded = reset_codes(layout);
-        match cable.reset() {
+        line.loaded = reset_codes(layout);
+        match line.cable.reset() {
             Ok(()) => {}
-            Err(_) => return Err(Broken { cable }),
+            Err(_) => return Err(line.broken()),
         }
-        match cable.cycles(1, 0, 0) {
-            Ok(_) => Ok(Parked { cable, loaded }),
-            Err(_) => Err(Broken { cable }),
+        match line.cable.cycles(1, 0, 0) {
+            Ok(_) => Ok(Parked { line }),
+            Err(_) => Err(line.broken()),
         }
     }
 
@@ -253,12 +277,11 @@ impl<C: Cable> Open<C> {
         ensures { result ≡ self.cable }
     {
         let Open {
-            cable,
-            loaded: _,
+            line,
             grant: _,
             codes: _,
         } = self;
-        cable
+        line.into_cable()
     }
 }
 

@@ -3,7 +3,7 @@ use Rattle.scan_share.proofs.states.Open.abandon.Goals as goal
 
 pub returns-in-Ok-cycles-clause-abandoned : goal.returns-in-Ok-cycles-clause-abandoned
 returns-in-Ok-cycles-clause-abandoned g c =
-    abandoned c.args.layout.now (g.C.Cable.chain c.args.self.cable) (g.C.Cable.chain c.reset.new.self) (g.C.Cable.chain c.cycles.new.self) _ c.reset_codes-loaded.ensures.parts c.requires.whole
+    abandoned c.args.layout.now (g.C.Cable.chain c.args.self.cable) (g.C.Cable.chain c.reset.new.self) (g.C.Cable.chain c.cycles.new.self) _ c.reset_codes-line.ensures.parts c.requires.whole
     (rw (← c.self.view_is) c.in-Ok.ensures.reset) c.in-Ok-cycles.ensures.clocked
 
 pub returns-in-Ok-cycles-clause-whole : goal.returns-in-Ok-cycles-clause-whole
@@ -13,5 +13,5 @@ returns-in-Ok-cycles-clause-whole g c =
 pub invariant_of-result : goal.invariant_of-result
 invariant_of-result g c = (
   c.in-Ok-cycles.ensures.devices,
-  abandons_rest c.args.layout.now (g.C.Cable.chain c.args.self.cable) (g.C.Cable.chain c.cycles.new.self) _ c.reset_codes-loaded.ensures.codes (returns-in-Ok-cycles-clause-abandoned g c),
+  abandons_rest c.args.layout.now (g.C.Cable.chain c.args.self.cable) (g.C.Cable.chain c.cycles.new.self) _ c.reset_codes-line.ensures.codes (returns-in-Ok-cycles-clause-abandoned g c),
 )

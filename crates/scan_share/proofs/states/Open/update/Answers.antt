@@ -5,7 +5,7 @@ use Rattle.scan_share.proofs.states.Open.update.Goals as goal
 
 pub update_from-requires-clause-open : goal.update_from-requires-clause-open
 update_from-requires-clause-open g c = record {
-  loaded = c.self.inside.loaded.items;
+  loaded = c.self.inside.line.loaded.items;
   loaded_is = rw (← c.self.view_is) at c.requires.loaded;
   open_is = c.self.invariant.1;
 }
@@ -13,6 +13,6 @@ update_from-requires-clause-open g c = record {
 pub invariant_of-result : goal.invariant_of-result
 invariant_of-result g c = (
   c.in-Ok.ensures.devices,
-  updates_rest c.args.layout.now (group_of c.args.layout.now.grants c.args.grant) (codes_for c.args.layout.now c.args.grant c.args.codes.now) c.args.bits.now.bits c.self.inside.loaded.items
-      (g.C.Cable.chain c.self.inside.cable) (g.C.Cable.chain c.update_from.new.cable) c.self.invariant.1 c.in-Ok.ensures.updated,
+  updates_rest c.args.layout.now (group_of c.args.layout.now.grants c.args.grant) (codes_for c.args.layout.now c.args.grant c.args.codes.now) c.args.bits.now.bits c.self.inside.line.loaded.items
+      (g.C.Cable.chain c.self.inside.line.cable) (g.C.Cable.chain c.update_from.new.cable) c.self.invariant.1 c.in-Ok.ensures.updated,
 )
