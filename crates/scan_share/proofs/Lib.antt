@@ -35,3 +35,4 @@ pub mod OwnWidths
 pub mod Answered
 pub mod OwnLongest
 pub mod CodeTests
+pub mod DeviceTypes

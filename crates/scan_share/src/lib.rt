@@ -86,4 +86,6 @@ pub fn reloads_cost_cycles()
 {}
 
 #[cfg(test)]
+mod random_groups;
+#[cfg(test)]
 mod tests;
