@@ -118,27 +118,23 @@ fn a_shelf_in_memory_gives_its_first_entry(rt: HostRuntime) -> Result<(), Fail> 
     Ok(())
 }
 
+// A name that leads through a file, and one of a folder, are faults.
 #[test]
 fn only_a_missing_file_is_absent_from_a_folder(rt: HostRuntime) -> Result<(), Fail> {
     let alloc = rt.alloc();
-    let path = "/tmp/a_file_of_the_test_of_ports";
-    fs::write(&rt, path, b"content")?;
+    fs::write(&rt, "written_by_a_test", b"content")?;
     let mut files = FolderShelf::new(rt.clone()?, alloc);
-    assert!(rt;
-        files
-            .load(alloc, path, 4)
-            .is_ok_and(|bytes| bytes.as_slice() == b"cont".as_slice())
-    );
-    assert!(rt;
-        files
-            .load(alloc, path, 9)
-            .is_ok_and(|bytes| bytes.as_slice() == b"content".as_slice())
-    );
-    fs::remove_file(&rt, path)?;
+    let front = files.load(alloc, "written_by_a_test", 4);
+    let whole = files.load(alloc, "written_by_a_test", 9);
+    let below = files.load(alloc, "written_by_a_test/below", 9);
+    fs::remove_file(&rt, "written_by_a_test")?;
+    assert!(rt; front.is_ok_and(|bytes| bytes.as_slice() == b"cont".as_slice()));
+    assert!(rt; whole.is_ok_and(|bytes| bytes.as_slice() == b"content".as_slice()));
+    assert!(rt; below.is_err_and(|found| found == LoadFault::Fault));
+    assert_eq!(rt; files.faults(), 1);
     for (name, fault, faults) in [
-        (path, LoadFault::Absent, 0),
-        ("/tmp", LoadFault::Fault, 1),
-        ("/dev/null/below", LoadFault::Fault, 2),
+        ("written_by_a_test", LoadFault::Absent, 1),
+        (".", LoadFault::Fault, 2),
     ] {
         assert!(rt;
             files
