@@ -27,7 +27,7 @@ pub count_is : (count cares ones : ℕ) → length (digits_of count cares ones) 
 count_is zero cares ones = refl
 count_is (suc count) cares ones = ap suc (count_is count (cares / 2) (ones / 2))
 
--- of two numbers below 2 and of what is above them, where no bit of the first is outside the second
+-- where the ones of a word are in another, so are its lowest bit and those above it
 inside : (ones cares : ℕ) → bit_and ones cares ≡ ones → (bit_and (ones / 2) (cares / 2) ≡ ones / 2) × (bit_and (ones % 2) (cares % 2) ≡ ones % 2)
 inside ones cares within =
     let parts = and_split ones cares in
