@@ -45,13 +45,16 @@ pub fn rise_devices(devices: &mut [Device], nets: &[Net], state: Tap, scan_open:
     }
 }
 
-// The falling edge at the devices.
-pub fn fall_devices(devices: &mut [Device], state: Tap, scan_open: bool)
+// The falling edge at the devices. The answer is TDO after it.
+pub fn fall_devices(devices: &mut [Device], state: Tap, scan_open: bool) -> bool
     requires { ScanFits state scan_open devices.old }
     ensures act { (chain : ChainState) → chain.scan_open ≡ scan_open → chain.devices ≡ devices.old → (on_fall state chain).devices ≡ devices.new }
+    ensures tdo { result ≡ tdo_in state devices.new }
     ensures fits { (chain : ChainState) → chain.scan_open ≡ scan_open → ScanFits state (on_fall state chain).scan_open devices.new }
 {
     match state {
+        Tap::ShiftDr => return devices::dr_out(devices),
+        Tap::ShiftIr => return devices::ir_out(devices),
         Tap::UpdateDr => {
             if scan_open {
                 devices::update_dr(devices);
@@ -61,15 +64,5 @@ pub fn fall_devices(devices: &mut [Device], state: Tap, scan_open: bool)
         Tap::TestLogicReset => devices::reset_codes(devices),
         _ => {}
     }
-}
-
-// TDO of the devices.
-pub fn tdo_of_devices(devices: &[Device], state: Tap) -> bool
-    ensures { result ≡ tdo_in state devices.now }
-{
-    match state {
-        Tap::ShiftDr => devices::dr_out(devices),
-        Tap::ShiftIr => devices::ir_out(devices),
-        _ => true,
-    }
+    true
 }

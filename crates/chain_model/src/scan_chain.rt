@@ -16,7 +16,7 @@ use crate::cable::Board;
 use crate::circuit::Circuit;
 use crate::device::Device;
 use crate::devices;
-use crate::edges::{fall_devices, open_after_fall, open_after_rise, rise_devices, tdo_of_devices};
+use crate::edges::{fall_devices, open_after_fall, open_after_rise, rise_devices};
 use part_model::{Net, RegNo};
 use std::alloc::{AllocError, Global};
 use std::marker::Model;
@@ -65,14 +65,15 @@ fn rise_circuit(circuit: &mut Option<Circuit>, state: Tap, scan_open: bool, tdi:
     }
 }
 
-fn fall_circuit(circuit: &mut Option<Circuit>, state: Tap, scan_open: bool)
+fn fall_circuit(circuit: &mut Option<Circuit>, state: Tap, scan_open: bool) -> bool
     requires { ScanFits state scan_open (devices_of circuit.old) }
     ensures act { (chain : ChainState) → chain.scan_open ≡ scan_open → chain.devices ≡ devices_of circuit.old → (on_fall state chain).devices ≡ devices_of circuit.new }
+    ensures tdo { result ≡ tdo_in state (devices_of circuit.new) }
     ensures nets { nets_of circuit.new ≡ nets_of circuit.old }
     ensures fits { (chain : ChainState) → chain.scan_open ≡ scan_open → ScanFits state (on_fall state chain).scan_open (devices_of circuit.new) }
 {
     match circuit {
-        None => {}
+        None => true,
         Some(circuit) => fall_devices(&mut circuit.devices, state, scan_open),
     }
 }
@@ -87,12 +88,12 @@ fn reset_circuit(circuit: &mut Option<Circuit>)
     }
 }
 
-fn tdo_of_circuit(circuit: &Option<Circuit>, state: Tap) -> bool
-    ensures { result ≡ tdo_in state (devices_of circuit.now) }
+fn dr_out(circuit: &Option<Circuit>) -> bool
+    ensures { result ≡ tdo_in Tap.ShiftDr (devices_of circuit.now) }
 {
     match circuit {
         None => true,
-        Some(circuit) => tdo_of_devices(&circuit.devices, state),
+        Some(circuit) => devices::dr_out(&circuit.devices),
     }
 }
 
@@ -186,9 +187,8 @@ impl ScanChain {
     pub fn fall(&mut self)
         ensures { self.new ≡ fall self.old }
     {
-        fall_circuit(&mut self.circuit, self.state, self.scan_open);
+        self.tdo = fall_circuit(&mut self.circuit, self.state, self.scan_open);
         self.scan_open = open_after_fall(self.state, self.scan_open);
-        self.tdo = tdo_of_circuit(&self.circuit, self.state);
     }
 
     // A reset by TRST.
@@ -251,7 +251,7 @@ impl ScanChain {
     {
         let out = shift_circuit(&mut self.circuit, n, low_bits(n, tdi));
         let word = out / 2 * 2 + u64::from(self.tdo);
-        self.tdo = tdo_of_circuit(&self.circuit, Tap::ShiftDr);
+        self.tdo = dr_out(&self.circuit);
         word
     }
 
@@ -264,9 +264,11 @@ impl ScanChain {
         ensures answers { result.1 ≡ number_of (answers (clocks_of result.0 tms tdi) self.old) }
         ensures bound { result.1 < 2 ^ result.0 }
     {
-        let shifts = left.min(tms.trailing_zeros());
-        if shifts > 1 && self.shifts_data() {
-            return (shifts, self.shift_run(shifts, tdi));
+        if left > 1 && self.shifts_data() {
+            let shifts = left.min(tms.trailing_zeros());
+            if shifts > 1 {
+                return (shifts, self.shift_run(shifts, tdi));
+            }
         }
         (1, u64::from(self.cycle(tms % 2 == 1, tdi % 2 == 1)))
     }

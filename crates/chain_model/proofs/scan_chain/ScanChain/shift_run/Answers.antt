@@ -15,8 +15,8 @@ invariant_of-self c =
 
 pub returns-clause-after : goal.returns-clause-after
 returns-clause-after c =
-    run_after c.args.n c.args.tdi c.low_bits.result (the_view c.self.inside) (devices_of c.shift_circuit-out.new.circuit) _ c.tdo_of_circuit-self-inside.result c.requires.word.0
-    (ap (λ (chain : ChainState). chain.state) c.self.view_is ∙ c.requires.state) c.low_bits.ensures.bits c.shift_circuit-out.ensures.after c.shift_circuit-out.ensures.nets c.tdo_of_circuit-self-inside.ensures
+    run_after c.args.n c.args.tdi c.low_bits.result (the_view c.self.inside) (devices_of c.shift_circuit-out.new.circuit) _ c.dr_out-self-inside.result c.requires.word.0
+    (ap (λ (chain : ChainState). chain.state) c.self.view_is ∙ c.requires.state) c.low_bits.ensures.bits c.shift_circuit-out.ensures.after c.shift_circuit-out.ensures.nets c.dr_out-self-inside.ensures
     ∙ (λ i. after_cycles (clocks_of c.args.n 0 c.args.tdi) (c.self.view_is i))
 
 pub returns-clause-answers : goal.returns-clause-answers
