@@ -20,16 +20,18 @@ use scan_bits::Bits;
 use std::alloc::{AllocError, Global};
 use std::marker::Model;
 
-// A device, with the registers that its code and the reset code select. Contracts see it as the device of the definitions.
+// A device. Contracts see it as the device of the definitions.
 #[derive(Drop)]
 pub struct Device {
     part: Part,
     code: u64,
+    // The data registers that the code and the reset code select.
     register: RegNo,
     reset_register: RegNo,
     ir_stage: Bits,
     dr_stage: DataStage,
     pins: Bits,
+    // The latch of BOUNDARY: the pins with these bits shifted in, those of its last scan.
     boundary: Bits,
     named: Vec<Bits>,
     captures: u64,
