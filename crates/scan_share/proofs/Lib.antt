@@ -22,6 +22,7 @@ pub mod Places
 pub mod Taking
 pub mod Splits
 pub mod Weaving
+pub mod Gathering
 pub mod Woven
 pub mod CodeWords
 pub mod Rested

@@ -1,8 +1,8 @@
 -- The bits that a scan of the shared chain shifts in, and those of the group among the bits that come out.
 use Rattle.std.specs.declared.option.Option.TheVariants.{Some}
-use Rattle.std.specs.Prelude.{ℕ, zero, suc, ◌≡◌, slice_get, ◌≤◌, ◌<◌, ◌^◌, Bool, true, false, List, [], ◌∷◌, ◌++◌, map, length, replicate}
+use Rattle.std.specs.Prelude.{ℕ, zero, suc, ◌≡◌, slice_get, ◌≤◌, ◌<◌, ◌+◌, ◌-◌, ◌^◌, Bool, true, false, List, [], ◌∷◌, ◌++◌, map, length, replicate}
 use Rattle.std.specs.List.{All}
-use Rattle.scan_bits.specs.Words.{number_of}
+use Rattle.scan_bits.specs.Words.{bits_of, number_of}
 use Rattle.part_model.specs.Parts.{DeviceType}
 use Rattle.grant_table.specs.Layouts.{LayoutShape}
 use Rattle.grant_table.specs.Kept.{AllParts}
@@ -94,3 +94,10 @@ pub record IsLoad (parts : List DeviceType) (codes : List ℕ) (place count bits
   pub low : place ≤ 32
   pub few : count ≤ 64
   pub bound : bits < 2 ^ count
+
+-- of the lowest bits of a word, which were the next of a scan, these are the group's; where there was room for them, there is as much less
+pub record TakesOwn (n word count bits : ℕ) (before after : List Bool) : Type 0 where
+  pub bound : bits < 2 ^ count
+  pub few : count ≤ n
+  pub taken : (more : List Bool) → bits_of count bits ++ chosen after more ≡ chosen before (bits_of n word ++ more)
+  pub room : (m : ℕ) → n ≤ length (woven before (replicate m false)) → (count ≤ m) × (length (woven after (replicate (m - count) false)) + n ≡ length (woven before (replicate m false)))

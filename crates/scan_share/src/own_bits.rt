@@ -1,8 +1,9 @@
 // The group's bits of a read-out.
 ghost use Rattle.std.specs.Prelude.{◌≡◌, ◌≤◌, ◌<◌, ◌+◌, ◌-◌, ◌/◌, ◌^◌, ◌++◌, ◌∷◌, [], Bool, List, false, length, replicate};
 ghost use Rattle.scan_bits.specs.Words.{bits_of};
-ghost use Rattle.scan_share.specs.Rows.{own_count, chosen, woven};
+ghost use Rattle.scan_share.specs.Rows.{TakesOwn, own_count, chosen, woven};
 
+use crate::pieces::Piece;
 use crate::runs::Runs;
 use scan_bits::Bits;
 use scan_walks::BitSink;
@@ -25,25 +26,24 @@ impl<'a, 'b> OwnBits<'a, 'b> {
     {
         OwnBits { runs, into }
     }
+}
 
-    // Takes the next bits of one device, at most `most` of the lowest ones of `word`. Says how many.
-    fn take_run(&mut self, most: u32, word: u64) -> u32
-        requires some { 1 ≤ most }
-        requires few { most ≤ 64 }
-        requires room { most ≤ length (woven self.old.runs.now (replicate (self.old.into.now.room - length self.old.into.now.bits) false)) }
-        ensures some { 1 ≤ result }
-        ensures few { result ≤ most }
-        ensures taken { (more : List Bool) → self.new.into.now.bits ++ chosen self.new.runs.now more ≡ self.old.into.now.bits ++ chosen self.old.runs.now (bits_of result word ++ more) }
-        ensures room { length (woven self.new.runs.now (replicate (self.new.into.now.room - length self.new.into.now.bits) false)) + result ≡ length (woven self.old.runs.now (replicate (self.old.into.now.room - length self.old.into.now.bits) false)) }
-        ensures size { self.new.into.now.room ≡ self.old.into.now.room }
-        ensures reference { self.new.into.ghost_name ≡ self.old.into.ghost_name }
-    {
-        let run = self.runs.next(most);
+// Takes the next `n` bits of a scan, which are the lowest ones of `word`. Says which of them are the group's.
+fn own_of(runs: &mut Runs, n: u32, word: u64) -> Piece
+    requires few { n ≤ 64 }
+    requires left { n ≤ length runs.old }
+    ensures taken { TakesOwn n word result.count result.bits runs.old runs.new }
+{
+    let mut own = Piece { count: 0, bits: 0 };
+    let mut done = 0;
+    while done < n {
+        let run = runs.next(n - done);
         if run.own {
-            self.into.push_word(run.count, word);
+            own = own.joined(run.count, word >> done);
         }
-        run.count
+        done += run.count;
     }
+    own
 }
 
 impl<'a, 'b> BitSink for OwnBits<'a, 'b> {
@@ -54,9 +54,9 @@ impl<'a, 'b> BitSink for OwnBits<'a, 'b> {
     ghost mark = { λ s. s.into.ghost_name ∷ s.into.now.room ∷ [] };
 
     fn put(&mut self, n: u32, word: u64) {
-        let mut done = 0;
-        while done < n {
-            done += self.take_run(n - done, word >> done);
+        let own = own_of(self.runs, n, word);
+        if own.count > 0 {
+            self.into.push_word(own.count, own.bits);
         }
     }
 }

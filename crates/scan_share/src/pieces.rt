@@ -1,5 +1,5 @@
 // Bits that come in pieces.
-ghost use Rattle.std.specs.Prelude.{◌≡◌, ◌≤◌, ◌<◌, ◌^◌, ◌%◌, ◌++◌, List, Bool, length, take, drop};
+ghost use Rattle.std.specs.Prelude.{◌≡◌, ◌≤◌, ◌<◌, ◌^◌, ◌%◌, ◌+◌, ◌++◌, List, Bool, length, take, drop};
 ghost use Rattle.scan_bits.specs.Words.{bits_of, number_of};
 
 /// Up to 64 bits: the lowest `count` of `bits`, the lowest first. The others are 0.
@@ -44,6 +44,21 @@ impl Piece {
             bits: self.bits >> most,
         };
         (first, rest)
+    }
+
+    /// The bits, and the lowest `count` bits of a word behind them.
+    pub fn joined(self, count: u32, word: u64) -> Piece
+        requires some { 1 ≤ count }
+        requires few { self.count + count ≤ 64 }
+        requires bound { self.bits < 2 ^ self.count }
+        ensures count { result.count ≡ self.count + count }
+        ensures bits { bits_of result.count result.bits ≡ bits_of self.count self.bits ++ bits_of count word }
+        ensures bound { result.bits < 2 ^ result.count }
+    {
+        Piece {
+            count: self.count + count,
+            bits: self.bits | low_bits(word, count) << self.count,
+        }
     }
 }
 

@@ -1,18 +1,22 @@
-use Rattle.std.proofs.Common.{arith, ◌-◌, ◌+◌, ◌/◌, ◌^◌, ◌++◌, ◌∙◌, ap, sym, List, Bool}
+use Rattle.std.proofs.Common.{arith, ◌-◌, ap, length, length-append, replicate, false}
 use Rattle.scan_bits.specs.Words.{bits_of}
-use Rattle.scan_share.specs.Rows.{chosen}
-use Rattle.scan_share.proofs.Weaving.{word_split}
+use Rattle.scan_bits.specs.BitLists.{BitList}
+use Rattle.scan_bits.proofs.WordLaws.{length-bits_of}
+use Rattle.scan_share.proofs.Gathering.{put_room, woven_short}
 use Rattle.scan_share.proofs.own_bits.OwnBitsBitSink.put.Goals as goal
 
-pub loop-done-preserved : goal.loop-done-preserved
-loop-done-preserved c = record {
-  within = omega (arith, c.take_run-done.ensures.few, c.loop-done-test.true);
-  taken = λ more.
-      c.take_run-done.ensures.taken (bits_of (c.args.n - (c.loop-done.done + c.take_run-done.result)) (c.args.word / 2 ^ (c.loop-done.done + c.take_run-done.result)) ++ more)
-      ∙ ap (λ (bits : List Bool). c.loop-done.self.into.now.bits ++ chosen c.loop-done.self.runs.now bits)
-      (sym (word_split c.args.n c.loop-done.done c.take_run-done.result c.args.word more c.take_run-done.ensures.few (omega (arith, c.loop-done-test.true))))
-      ∙ c.loop-done.invariant.taken more;
-  room = omega (arith, c.take_run-done.ensures.room, c.loop-done.invariant.room);
-  size = c.take_run-done.ensures.size ∙ c.loop-done.invariant.size;
-  reference = c.take_run-done.ensures.reference ∙ c.loop-done.invariant.reference;
-}
+pub own_of-own-requires-clause-left : goal.own_of-own-requires-clause-left
+own_of-own-requires-clause-left c =
+    omega (arith, c.requires.room, woven_short c.args.self.now.runs.now (replicate (c.args.self.now.into.now.room - length c.args.self.now.into.now.bits) false))
+
+pub returns-then-own-gt0-clause-room : goal.returns-then-own-gt0-clause-room
+returns-then-own-gt0-clause-room c =
+    put_room c.args.n c.args.word c.own_of-own.result.count c.own_of-own.result.bits (c.args.self.now.into.now.room - length c.args.self.now.into.now.bits) (c.push_word.new.self.room - length c.push_word.new.self.bits)
+    c.args.self.now.runs.now c.own_of-own.new.runs c.own_of-own.ensures.taken c.requires.room
+    (omega (
+      arith,
+      ap (λ (b : BitList). b.room) c.push_word.ensures,
+      ap (λ (b : BitList). length b.bits) c.push_word.ensures,
+      length-append c.args.self.now.into.now.bits (bits_of c.own_of-own.result.count c.own_of-own.result.bits),
+      length-bits_of c.own_of-own.result.count c.own_of-own.result.bits,
+    ))
