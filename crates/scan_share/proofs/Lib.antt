@@ -31,7 +31,6 @@ pub mod Loaded
 pub mod Loading
 pub mod Scanned
 pub mod Ready
-pub mod Totals
 pub mod OwnWidths
 pub mod Answered
 pub mod OwnLongest

@@ -4,9 +4,8 @@ use Rattle.std.specs.Prelude.{slice_get}
 use Rattle.std.specs.Option.{option_map}
 use Rattle.std.specs.List.{All, slice_index_or}
 use Rattle.std.proofs.lemmas.Option.{slice_get-map, slice_get_within, same_Some}
-use Rattle.std.proofs.lemmas.List.{length-map, length-replicate, append-nil, take_all, replicate-append-replicate}
+use Rattle.std.proofs.lemmas.List.{length-map, append-nil, take_all, replicate-append-replicate}
 use Rattle.scan_bits.specs.Words.{bits_of, number_of}
-use Rattle.scan_bits.proofs.WordLaws.{bits_of-number_of, number_of-lt}
 use Rattle.scan_bits.specs.Registers.{joined}
 use Rattle.part_model.specs.Parts.{DeviceType, width}
 use Rattle.part_model.specs.Plans.{IsPart, code_refusal}
@@ -24,14 +23,6 @@ pub few_bits : (part : DeviceType) → IsPart part → part.ir_length ≤ 64
 few_bits part is =
     let first = first_none (code_refusal is.plan) _ is.accepted in
     subst (λ (p : DeviceType). p.ir_length ≤ 64) (sym is.made) (coded is.plan first.0).most
-
--- ---- the code of BYPASS
-
-pub bypass_bits : (n word : ℕ) → word ≡ number_of (replicate n true) → bits_of n word ≡ replicate n true
-bypass_bits n word is = (λ i. bits_of (sym (length-replicate n true) i) (is i)) ∙ bits_of-number_of (replicate n true)
-
-pub bypass_below : (n word : ℕ) → word ≡ number_of (replicate n true) → word < 2 ^ n
-bypass_below n word is = rw is (subst (λ k. number_of (replicate n true) < 2 ^ k) (length-replicate n true) (number_of-lt (replicate n true)))
 
 -- ---- entries
 
@@ -150,9 +141,6 @@ width_count scan is =
     let entries = entries_at scan.layout.parts scan.group in
     length-widths entries (own_codes scan) (length-codes entries scan.codes is.coded)
     ∙ length-entries_at scan.layout.parts scan.group (λ g q e. all_at (λ k. k < length scan.layout.parts) scan.group is.within g q e)
-
-stage_count : (scan : ScanView) → IsScanOf scan.layout scan.group scan.codes → length (ones_of (group_widths scan.layout scan.group (own_codes scan))) ≡ length scan.group
-stage_count scan is = length-map (group_widths scan.layout scan.group (own_codes scan)) (λ n. replicate n true) ∙ width_count scan is
 
 -- ---- stages from the last to the first
 

@@ -1,6 +1,6 @@
 -- The bits of a write, and the group's bits of a read-out.
 use Rattle.std.proofs.Common.{◌≡◌, ◌≤◌, ◌<◌, ◌+◌, ◌-◌, ◌/◌, ◌^◌, ℕ, zero, suc, Bool, true, false, List, [], ◌∷◌, ◌++◌, length, take, drop, replicate, refl, ap, sym, subst, ◌∙◌, arith, append_assoc, length-append, length-drop}
-use Rattle.std.proofs.lemmas.List.{append-nil, drop-drop, drop-replicate, length-replicate, length-take-le}
+use Rattle.std.proofs.lemmas.List.{drop-drop, drop-replicate, length-replicate, length-take-le}
 use Rattle.std.proofs.lemmas.Nat.{shr-shr}
 use Rattle.scan_bits.specs.Words.{bits_of, number_of}
 use Rattle.scan_bits.proofs.WordLaws.{bits_of-zero, bits_of-append, length-bits_of}
@@ -108,12 +108,3 @@ word_split n done count word more le lt =
     ∙ ap (λ q. q ++ more) (bits_of-append count (n - (done + count)) (word / 2 ^ done))
     ∙ append_assoc (bits_of count (word / 2 ^ done)) (bits_of (n - (done + count)) (word / 2 ^ done / 2 ^ count)) more
     ∙ ap (λ v. bits_of count (word / 2 ^ done) ++ (bits_of (n - (done + count)) v ++ more)) high
-
-chosen-none : (places : List Bool) → chosen places [] ≡ []
-chosen-none [] = refl
-chosen-none (place ∷ places) = refl
-
--- what a sink holds once it took all bits
-pub what_is_held : (bits left before places out : List Bool) → bits ++ chosen left [] ≡ before ++ chosen places (out ++ []) → bits ≡ before ++ chosen places out
-what_is_held bits left before places out is =
-    sym (ap (λ q. bits ++ q) (chosen-none left) ∙ append-nil bits) ∙ is ∙ ap (λ q. before ++ chosen places q) (append-nil out)

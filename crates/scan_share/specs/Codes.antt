@@ -1,11 +1,7 @@
 -- Instruction codes as words.
-use Rattle.std.specs.Prelude.{ℕ, ◌<◌, ◌^◌, true, List, [], ◌∷◌, replicate, slice_set}
+use Rattle.std.specs.Prelude.{ℕ, ◌<◌, ◌^◌, List, [], ◌∷◌, slice_set}
 use Rattle.scan_bits.specs.Words.{number_of}
 use Rattle.part_model.specs.Parts.{DeviceType}
-
--- the word of all ones, which is BYPASS
-abbrev pub all_ones : DeviceType → ℕ
-all_ones part = number_of (replicate part.ir_length true)
 
 -- the word of the code that Test-Logic-Reset loads
 abbrev pub reset_word : DeviceType → ℕ
