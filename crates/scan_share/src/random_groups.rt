@@ -458,18 +458,18 @@ fn captured(
 }
 
 // Ends a scan on the shared chain.
-fn ended(open: Open<Shared>, layout: &Layout, wanted: &Wanted) -> Result<Parked<Shared>, Trouble>
+fn ended(held: Open<Shared>, layout: &Layout, wanted: &Wanted) -> Result<Parked<Shared>, Trouble>
     requires grant { wanted.now.grant < length layout.now.grants }
     requires codes { AreCodes (entries_at layout.now.parts (group_of layout.now.grants wanted.now.grant)) wanted.now.codes.items }
-    requires loaded { IsLoadedFor layout.now wanted.now.grant wanted.now.codes.items open.loaded }
+    requires loaded { IsLoadedFor layout.now wanted.now.grant wanted.now.codes.items held.loaded }
 {
     if own_width(layout, wanted.grant, &wanted.codes) != wanted.bits.len() {
-        open.leave();
+        held.leave();
         return Err(Trouble::Call);
     }
     let ended = match wanted.end {
-        End::Update => open.update(layout, wanted.grant, &wanted.codes, &wanted.bits),
-        End::Abandon => open.abandon(layout),
+        End::Update => held.update(layout, wanted.grant, &wanted.codes, &wanted.bits),
+        End::Abandon => held.abandon(layout),
     };
     match ended {
         Ok(parked) => Ok(parked),
