@@ -4,7 +4,6 @@ use Rattle.std.specs.Option.{option_map}
 use Rattle.std.specs.declared.option.Option.{Option}
 use Rattle.std.specs.declared.option.Option.TheVariants.{None, Some}
 use Rattle.std.specs.Io.KnownBytes.{Appends}
-use Rattle.base_types.specs.Counts.{Rose}
 use Rattle.ports.specs.Streams.{AppendsFront}
 use Rattle.ports.specs.Shelves.{NamedBytes, named}
 use Rattle.ports.specs.declared.shelf.Load.{Load}

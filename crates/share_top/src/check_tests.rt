@@ -132,6 +132,12 @@ fn a_refusal_is_told(rt: HostRuntime) -> Result<(), Fail> {
             b"layout 4 2 2542\n",
         ),
         (
+            "version = 1\n[[grant]]\ndevices = [1]\nport = 2542\nprotocol = \"xvc\"\n\
+[[grant]]\ndevices = [2, 1]\nport = 2543\nprotocol = \"xvc\"\n",
+            DEMOS,
+            b"layout 2 2 1\n",
+        ),
+        (
             TWO,
             "[[device]]\nbsdl = \"demo.bsd\"\n[[device]]\nbsdl = \"demo.bsd\"\n[[net]]\nfrom = [1, 0]\nto = [2, 0]\n",
             b"layout 6 0 1\n",
