@@ -111,6 +111,11 @@ codes_open _ rs codes may = refl
 
 -- ---- the virtual TAP
 
+pub rests_risen : (state : Tap) (is_open tdi : Bool) (register : Option BitList) → is_open ≡ false → bits_shown (risen_register state is_open tdi register) ≡ bits_shown register
+rests_risen ShiftDr false tdi register shut = refl
+rests_risen ShiftDr true tdi register shut = never (sym shut)
+rests_risen _ is_open tdi register shut = refl
+
 pub kept_rise : (grant : ℕ) (state : Tap) (tdo is_open : Bool) (g : GroupInstructions) (register : Option BitList) (tms tdi : Bool)
     → KeepsTap (tap_of grant state tdo is_open g register) (tap_of grant (next state tms) tdo is_open (record g { registers = risen state tdi g.registers }) (risen_register state is_open tdi register))
 kept_rise grant state tdo is_open g register tms tdi = record {

@@ -154,7 +154,7 @@ impl VTap {
     }
 
     /// A rising edge of TCK, where it does not capture. In Capture-DR the scan was opened before, and the edge moves the state alone. It
-    /// does not come in Update-DR with the scan open: there the scan is closed first.
+    /// does not come in Update-DR with the scan open: there the scan is closed first. With no scan open the data register rests.
     pub fn rise(&mut self, layout: &Layout, tms: bool, tdi: bool)
         requires layout { IsOfLayout layout.now self.old }
         requires capture { at_capture self.old.view ≡ false }
@@ -163,6 +163,7 @@ impl VTap {
         ensures state { self.new.view.state ≡ next self.old.view.state tms }
         ensures scan { self.new.view.scan_open ≡ self.old.view.scan_open }
         ensures codes { self.new.view.codes ≡ self.old.view.codes }
+        ensures rests { self.old.view.scan_open ≡ false → self.new.view.register ≡ self.old.view.register }
         ensures moved { is_capture_dr self.old.view.state ≡ false → MovesAs self.old.parts (λ chain. rise chain tms tdi) self.old.view self.new.view }
         ensures left { is_capture_dr self.old.view.state ≡ true → self.new.view ≡ record self.old.view { state = next self.old.view.state tms } }
     {
