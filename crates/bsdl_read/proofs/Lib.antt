@@ -2,6 +2,7 @@ pub mod Going
 pub mod Forms
 pub mod Bytes
 pub mod Spans
+pub mod Whole
 pub mod Patterned
 pub mod Filing
 pub mod Parting

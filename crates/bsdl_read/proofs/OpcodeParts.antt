@@ -9,7 +9,7 @@ use Rattle.part_model.specs.declared.Digit.{Digit}
 use Rattle.part_model.specs.declared.plan.Opcode.{Opcode}
 use Rattle.bsdl_read.specs.Words.{capital}
 use Rattle.bsdl_read.specs.Contents.{and_then, is_space, is_pattern_digit, digit_of, through, through_all}
-use Rattle.bsdl_read.specs.Opcodes.{Entries, behind_pattern, behind_name, next_byte, closed, no_entries, opcodes}
+use Rattle.bsdl_read.specs.Opcodes.{Entries, behind_pattern, behind_name, next_byte, closed, with_entries, no_entries, opcodes, BeginsWith, with_whole}
 use Rattle.bsdl_read.specs.declared.opcodes.OpcodeStage.{OpcodeStage}
 use Rattle.bsdl_read.specs.declared.opcodes.OpcodeStage.TheVariants as stage
 use Rattle.bsdl_read.specs.ContentGrammar.{content, Every, are_spaces, Padded, written_padded, IsPadded, is_name, is_pattern, name_of, pattern_of, followed, written_joined, OpcodeText, written_opcode, IsOpcodeText, opcode_of, SaysOpcodes}
@@ -270,6 +270,32 @@ entry_goes done o rest is =
     ∙ patterns_go done (name_of o.name) [] o.patterns.firsts (written_padded o.patterns.last (41 ∷ o.behind ++ rest)) is.has_patterns.each_first
     ∙ pattern_goes done (name_of o.name) (map pattern_of o.patterns.firsts) o.patterns.last 41 (with_parts stage.Closed (done ++ opcode_of o ∷ []) [] [] []) (o.behind ++ rest) is.has_patterns.is_last refl refl
     ∙ over_blanks next_byte (with_parts stage.Closed (done ++ opcode_of o ∷ []) [] [] []) (λ byte blank. rw blank refl) o.behind rest is.blank_behind
+
+-- an entry that stands whole in a text
+whole_goes : (done : List Opcode) (bytes name digits behind : List ℕ) → BeginsWith bytes name digits behind
+    → through next_byte (with_whole (with_entries done) name digits) behind ≡ through next_byte (with_entries done) bytes
+whole_goes done bytes name digits behind begins = sym (ap (through next_byte (with_entries done)) begins.are ∙ entry_goes done entry behind is_entry)
+  where
+    entry : OpcodeText
+    entry = record {
+      name = record { before = []; inside = name; behind = begins.blanks };
+      patterns = record { firsts = []; last = record { before = []; inside = digits; behind = [] } };
+      behind = [];
+    }
+
+    is_entry : IsOpcodeText entry
+    is_entry = record {
+      has_name = record { blank_before = refl; is_inside = begins.has_name; blank_behind = begins.are_blank };
+      has_patterns = record { each_first = tt; is_last = record { blank_before = refl; is_inside = begins.has_digits; blank_behind = refl } };
+      blank_behind = refl;
+    }
+
+pub whole_is_read : (e after : Entries) (bytes name digits behind : List ℕ) → e ≡ with_entries e.done → fine_result (with_whole e name digits) ≡ fine_result after → BeginsWith bytes name digits behind
+    → through next_byte after behind ≡ through next_byte e bytes
+whole_is_read e after bytes name digits behind between leads begins =
+    ap (λ (x : Entries). through next_byte x behind) (sym (same_ok _ _ leads) ∙ ap (λ (x : Entries). with_whole x name digits) between)
+    ∙ whole_goes e.done bytes name digits behind begins
+    ∙ ap (λ (x : Entries). through next_byte x bytes) (sym between)
 
 entries_go : (done : List Opcode) (firsts : List OpcodeText) (rest : List ℕ) → Every IsOpcodeText firsts
     → through next_byte (with_parts stage.Entry done [] [] []) (followed written_opcode firsts rest) ≡ through next_byte (with_parts stage.Entry (done ++ map opcode_of firsts) [] [] []) rest

@@ -52,11 +52,20 @@ whole_number bytes = if is_short bytes then Ok (number_from 0 bytes) else Err 8
 
 -- ---- what the code answers
 
+-- each answer that may come is that of a test
+abbrev pub Tests : (ℕ → Bool → Type 0) → (ℕ → Bool) → Type 0
+Tests answers test = (byte : ℕ) (answer : Bool) → answers byte answer → answer ≡ test byte
+
 -- the state after a step, unless memory runs out
 abbrev pub Steps : {S : Type 0} → S → Result (Unit {0}) ContentFault → Result S ℕ → Type 0
 Steps after (Ok u) read = read ≡ Ok after
 Steps after (Err Memory) read = Unit {0}
 Steps after (Err (Departs cause)) read = read ≡ Err cause
+
+-- a fault is what is read, unless memory runs out
+abbrev pub Refuses : {A : Type 0} → ContentFault → Result A ℕ → Type 0
+Refuses Memory read = Unit {0}
+Refuses (Departs cause) read = read ≡ Err cause
 
 -- what was read, unless memory runs out
 abbrev pub Gives : {X Y : Type 0} → (X → Y) → Result X ContentFault → Result Y ℕ → Type 0

@@ -1,11 +1,12 @@
 -- The content of INSTRUCTION_OPCODE: entries joined by `,`; an entry is a name, `(`, patterns joined by `,`, and `)`.
-use Rattle.std.specs.Prelude.{ℕ, Bool, true, false, ◌==◌, List, [], ◌∷◌, ◌++◌, reverse, string_bytes, if◌then◌else◌, Result, Ok, Err}
+use Rattle.std.specs.Prelude.{◌≡◌, ℕ, Bool, true, false, ◌==◌, List, [], ◌∷◌, ◌++◌, map, reverse, string_bytes, if◌then◌else◌, Result, Ok, Err}
 use Rattle.bsdl_lex.specs.declared.Token.{Token}
 use Rattle.bsdl_lex.specs.Tokens.{is_letter, in_word}
 use Rattle.part_model.specs.declared.Digit.{Digit}
 use Rattle.part_model.specs.declared.plan.Opcode.{Opcode}
 use Rattle.bsdl_read.specs.Words.{capital}
 use Rattle.bsdl_read.specs.Contents.{and_then, is_space, is_pattern_digit, digit_of, through_all}
+use Rattle.bsdl_read.specs.ContentGrammar.{are_spaces, is_name, is_pattern}
 use Rattle.bsdl_read.specs.declared.opcodes.OpcodeStage.{OpcodeStage}
 use Rattle.bsdl_read.specs.declared.opcodes.OpcodeStage.TheVariants as stage
 use Rattle.bsdl_read.specs.declared.opcodes.OpcodeReading.{OpcodeReading}
@@ -63,12 +64,30 @@ is_closed _ = false
 abbrev pub closed : Entries → Result (List Opcode) ℕ
 closed e = if is_closed e.stage then Ok e.done else Err 8
 
+-- whole entries, and nothing of the next
+abbrev pub with_entries : List Opcode → Entries
+with_entries done = record { stage = stage.Entry; done = done; name = []; patterns = []; digits = [] }
+
 abbrev pub no_entries : Entries
-no_entries = record { stage = stage.Entry; done = []; name = []; patterns = []; digits = [] }
+no_entries = with_entries []
 
 -- the entries of the tokens of a VALUE, or cause 8
 abbrev pub opcodes : List ℕ → List Token → Result (List Opcode) ℕ
 opcodes text tokens = and_then (through_all next_byte text no_entries tokens) closed
+
+-- ---- what the code reads at once
+
+-- the bytes begin with a whole entry: a name, blanks, `(`, the digits of one pattern, and `)`
+pub record BeginsWith (bytes name digits behind : List ℕ) : Type 0 where
+  pub blanks : List ℕ
+  pub are : bytes ≡ name ++ (blanks ++ 40 ∷ (digits ++ 41 ∷ behind))
+  pub has_name : is_name name ≡ true
+  pub are_blank : are_spaces blanks ≡ true
+  pub has_digits : is_pattern digits ≡ true
+
+-- a whole entry of one pattern was read
+abbrev pub with_whole : Entries → List ℕ → List ℕ → Entries
+with_whole e name digits = record e { stage = stage.Closed; done = e.done ++ record { name = map capital name; patterns = reverse (map digit_of digits) ∷ [] } ∷ [] }
 
 -- what the code keeps
 abbrev pub view : OpcodeReading → Entries

@@ -1,5 +1,5 @@
 // What stands between the quotes of a VALUE, and numbers.
-ghost use Rattle.std.specs.Prelude.{◌≡◌, ◌<◌, ◌≤◌, ◌-◌, ◌++◌, ◌∷◌, ◌^◌, [], true, length, string_bytes, if◌then◌else◌, OnOk};
+ghost use Rattle.std.specs.Prelude.{ℕ, Bool, ◌≡◌, ◌<◌, ◌≤◌, ◌-◌, ◌++◌, ◌∷◌, ◌^◌, [], true, length, map, reverse, string_bytes, if◌then◌else◌, OnOk, IfOk, IfSome};
 ghost use Rattle.std.specs.List.{list_all};
 ghost use Rattle.bsdl_lex.specs.Tokens as t;
 ghost use Rattle.bsdl_read.specs.Words as w;
@@ -7,9 +7,10 @@ ghost use Rattle.bsdl_read.specs.Contents as c;
 ghost use Rattle.bsdl_read.specs.declared.contents.ContentFault.TheVariants.{Memory};
 
 use crate::words::{capital, spelled};
+use base_types::Items;
 use bsdl_lex::{Token, TokenKind, is_digit};
-use part_model::Digit;
-use std::alloc::{AllocError, AllocFailed};
+use part_model::{Digit, Pattern};
+use std::alloc::{AllocError, AllocFailed, Global};
 
 // Why a content is not read on: it departs from its form for a cause of the text, 8 or 9.
 #[derive(Clone, Copy)]
@@ -73,6 +74,59 @@ pub fn add_letter(name: &mut String, byte: u8) -> Result<(), AllocError>
     ensures { OnOk result (string_bytes name.new ≡ string_bytes name.old ++ w.capital byte ∷ []) }
 {
     name.push(capital(byte) as char)
+}
+
+// The bytes at the front that pass a test, and those behind them.
+pub fn split_run<F: Fn(u8) -> bool>(bytes: &[u8], passes: F) -> (&[u8], &[u8])
+    requires { F.IsAlwaysCallable passes }
+    ensures whole { bytes.now ≡ result.0.now ++ result.1.now }
+    ensures front { (test : ℕ → Bool) → c.Tests (F.post passes) test → list_all test result.0.now ≡ true }
+{
+    let mut count = 0;
+    while count < bytes.len() && passes(bytes[count]) {
+        count += 1;
+    }
+    bytes.split_at(count)
+}
+
+// The bytes behind a sign, where it stands at the front.
+pub fn behind_sign(bytes: &[u8], sign: u8) -> Option<&[u8]>
+    ensures { IfSome result (λ behind. bytes.now ≡ sign ∷ behind.now) }
+{
+    match bytes.split_first() {
+        Some((byte, behind)) if *byte == sign => Some(behind),
+        _ => None,
+    }
+}
+
+// The letters of a name in capitals.
+pub fn name_of(alloc: Global, letters: &[u8]) -> Result<String, AllocError>
+    requires { list_all t.in_word letters.now ≡ true }
+    ensures { IfOk result (λ name. string_bytes name ≡ map w.capital letters.now) }
+{
+    let mut bytes = Vec::with_capacity(alloc, letters.len())?;
+    for letter in letters {
+        bytes.push_reserved(capital(*letter));
+    }
+    match String::from_utf8(bytes) {
+        Ok(name) => Ok(name),
+        Err(_) => unreachable!(),
+    }
+}
+
+// A pattern of these digits, of which the rightmost is the lowest.
+pub fn pattern_of(alloc: Global, digits: &[u8]) -> Result<Pattern, AllocError>
+    ensures { IfOk result (λ pattern. pattern ≡ reverse (map c.digit_of digits.now)) }
+{
+    let mut lowest_first = Vec::with_capacity(alloc, digits.len())?;
+    let mut rest = digits;
+    while let Some((digit, higher)) = rest.split_last() {
+        lowest_first.push_reserved(digit_of(*digit));
+        rest = higher;
+    }
+    Ok(Pattern {
+        digits: Items::from_vec(lowest_first),
+    })
 }
 
 // What stands between the quotes of a Text.

@@ -1,5 +1,6 @@
 // The content of INSTRUCTION_OPCODE.
-ghost use Rattle.std.specs.Prelude.{◌≡◌, ◌<◌, true, length, OnOk, IfOk, Ok};
+ghost use Rattle.std.specs.Prelude.{◌≡◌, ◌<◌, true, length, IfOk, IfErr, IfSome, IsTrue, Ok};
+ghost use Rattle.std.specs.List.{list_all};
 ghost use Rattle.bsdl_lex.specs.Tokens as t;
 ghost use Rattle.bsdl_lex.specs.Tokens.{SpansRise};
 ghost use Rattle.part_model.specs.Plans as plans;
@@ -7,7 +8,8 @@ ghost use Rattle.bsdl_read.specs.Contents as c;
 ghost use Rattle.bsdl_read.specs.Opcodes as o;
 
 use crate::contents::{
-    ContentFault, add_letter, departs_unless, digit_of, inside, is_pattern_digit, is_space,
+    ContentFault, add_letter, behind_sign, departs_unless, digit_of, inside, is_pattern_digit,
+    is_space, name_of, pattern_of, split_run,
 };
 use base_types::{Items, Text};
 use bsdl_lex::{Token, in_word, is_letter};
@@ -35,6 +37,33 @@ pub struct OpcodeReading {
     pub name: String,
     pub patterns: Vec<Pattern>,
     pub digits: Vec<Digit>,
+}
+
+// An entry of one pattern that stands whole in a text, and the bytes behind it.
+#[derive(Clone, Copy)]
+struct WholeEntry<'a> {
+    name: &'a [u8],
+    digits: &'a [u8],
+    behind: &'a [u8],
+}
+
+// The entry at the front, where it stands there whole, has one pattern, and has blanks behind its name alone.
+fn whole_entry(bytes: &[u8]) -> Option<WholeEntry<'_>>
+    ensures { IfSome result (λ entry. o.BeginsWith bytes.now entry.name.now entry.digits.now entry.behind.now) }
+{
+    let (name, behind_name) = split_run(bytes, in_word);
+    let (first, _) = name.split_first()?;
+    let (_, list) = split_run(behind_name, is_space);
+    let (digits, end) = split_run(behind_sign(list, b'(')?, is_pattern_digit);
+    let behind = behind_sign(end, b')')?;
+    if !is_letter(*first) || digits.is_empty() {
+        return None;
+    }
+    Some(WholeEntry {
+        name,
+        digits,
+        behind,
+    })
 }
 
 impl OpcodeReading {
@@ -138,15 +167,59 @@ impl OpcodeReading {
         }
     }
 
+    // Whether nothing of the next entry was read.
+    fn is_between(&self) -> bool
+        ensures { IsTrue result → o.view self.now ≡ o.with_entries self.now.done.items }
+    {
+        matches!(self.stage, OpcodeStage::Entry)
+            && self.name.is_empty()
+            && self.patterns.is_empty()
+            && self.digits.is_empty()
+    }
+
+    // An entry that stands whole in a text.
+    fn whole(&mut self, alloc: Global, letters: &[u8], digits: &[u8]) -> Result<(), ContentFault>
+        requires { list_all t.in_word letters.now ≡ true }
+        ensures { c.Steps (o.view self.new) result (Ok (o.with_whole (o.view self.old) letters.now digits.now)) }
+    {
+        let name = name_of(alloc, letters)?;
+        let mut patterns = Vec::with_capacity(alloc, 1)?;
+        patterns.push(pattern_of(alloc, digits)?)?;
+        self.stage = OpcodeStage::Closed;
+        self.done.push(Opcode {
+            name: Text::from_string(name),
+            patterns: Items::from_vec(patterns),
+        })?;
+        Ok(())
+    }
+
+    // What stands at the front, a whole entry or one byte. Answers the bytes behind it.
+    fn next<'a>(&mut self, alloc: Global, bytes: &'a [u8]) -> Result<&'a [u8], ContentFault>
+        requires { 0 < length bytes.now }
+        ensures goes { IfOk result (λ behind. c.through o.next_byte (o.view self.new) behind.now ≡ c.through o.next_byte (o.view self.old) bytes.now) }
+        ensures less { IfOk result (λ behind. length behind.now < length bytes.now) }
+        ensures fault { IfErr result (λ fault. c.Refuses fault (c.through o.next_byte (o.view self.old) bytes.now)) }
+    {
+        if self.is_between() {
+            if let Some(entry) = whole_entry(bytes) {
+                self.whole(alloc, entry.name, entry.digits)?;
+                return Ok(entry.behind);
+            }
+        }
+        let Some((byte, behind)) = bytes.split_first() else {
+            unreachable!()
+        };
+        self.byte(alloc, *byte)?;
+        Ok(behind)
+    }
+
     // The bytes of one text of the content.
     fn bytes(&mut self, alloc: Global, bytes: &[u8]) -> Result<(), ContentFault>
         ensures { c.Steps (o.view self.new) result (c.through o.next_byte (o.view self.old) bytes.now) }
     {
-        for byte in bytes {
-            match self.byte(alloc, *byte) {
-                Ok(()) => {}
-                Err(fault) => return Err(fault),
-            }
+        let mut rest = bytes;
+        while !rest.is_empty() {
+            rest = self.next(alloc, rest)?;
         }
         Ok(())
     }
@@ -157,10 +230,7 @@ impl OpcodeReading {
         ensures { c.Steps (o.view self.new) result (c.through_all o.next_byte text.now (o.view self.old) tokens.now) }
     {
         for token in tokens {
-            match self.bytes(alloc, inside(text, *token)) {
-                Ok(()) => {}
-                Err(fault) => return Err(fault),
-            }
+            self.bytes(alloc, inside(text, *token))?;
         }
         Ok(())
     }
@@ -178,10 +248,7 @@ pub fn opcodes(alloc: Global, text: &[u8], tokens: &[Token]) -> Result<Vec<Opcod
         patterns: Vec::new(alloc),
         digits: Vec::new(alloc),
     };
-    match reading.tokens(alloc, text, tokens) {
-        Ok(()) => {}
-        Err(fault) => return Err(fault),
-    }
+    reading.tokens(alloc, text, tokens)?;
     match reading.stage {
         OpcodeStage::Closed => Ok(reading.done),
         _ => Err(ContentFault::Departs(8)),
