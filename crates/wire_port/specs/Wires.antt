@@ -1,5 +1,5 @@
 -- What a wire shows to the layers above.
-use Rattle.std.specs.Prelude.{ℕ, ◌==◌, List, length, if◌then◌else◌}
+use Rattle.std.specs.Prelude.{ℕ, Bool, ◌==◌, List, length, if◌then◌else◌}
 use Rattle.wire_port.specs.Steps.{Step}
 use Rattle.wire_port.specs.Offers.{Answer}
 
@@ -25,3 +25,11 @@ abbrev pub last_of_give : ℕ → Answer → Last
 last_of_give whole (Answer.Bytes bytes) = if length bytes == whole then Last.Other else Last.Short
 last_of_give whole Answer.NotNow = Last.Short
 last_of_give whole Answer.Gone = Last.Other
+
+-- what every wire tells and only `listen` and `poll` change: the ports that it was to listen at, whether it listens, and whether it came
+-- to its end; and a mark, which no call changes
+pub record DoorView : Type 0 where
+  pub ports : List ℕ
+  pub up : Bool
+  pub over : Bool
+  pub mark : List ℕ
