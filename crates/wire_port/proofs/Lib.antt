@@ -1,0 +1,6 @@
+pub mod Cuts
+pub mod Numbers
+pub mod Standing
+pub mod Going
+pub mod Forms
+pub mod Texts

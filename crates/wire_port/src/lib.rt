@@ -4,8 +4,14 @@
 ghost use Rattle.std.specs.Prelude.{◌≡◌, [], true};
 ghost use Rattle.wire_port.specs.Steps.{opens_once};
 
+mod lines;
+mod read;
+mod script;
 mod wire;
+mod words;
 
+pub use read::read_script;
+pub use script::{Script, ScriptRefusal};
 pub use wire::{Conn, Found, Given, PollFault, Poller, Taken, Wire};
 
 /// No steps open no connection twice.
