@@ -4,3 +4,4 @@ pub mod Standing
 pub mod Going
 pub mod Forms
 pub mod Texts
+pub mod Logging

@@ -5,6 +5,8 @@ ghost use Rattle.std.specs.Prelude.{◌≡◌, [], true};
 ghost use Rattle.wire_port.specs.Steps.{opens_once};
 
 mod lines;
+mod link;
+mod log;
 mod read;
 mod script;
 mod wire;
