@@ -5,3 +5,8 @@ pub mod Going
 pub mod Forms
 pub mod Texts
 pub mod Logging
+pub mod Places
+pub mod Keeping
+pub mod Changing
+pub mod Stepping
+pub mod Moves

@@ -9,6 +9,7 @@ mod link;
 mod log;
 mod read;
 mod script;
+mod slots;
 mod wire;
 mod words;
 
