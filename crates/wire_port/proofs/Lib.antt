@@ -10,3 +10,5 @@ pub mod Keeping
 pub mod Changing
 pub mod Stepping
 pub mod Moves
+pub mod Telling
+pub mod Fitting

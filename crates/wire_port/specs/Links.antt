@@ -1,5 +1,5 @@
 -- What a script wire keeps of a connection, and of the steps.
-use Rattle.std.specs.Prelude.{ℕ, ◌+◌, ◌-◌, Bool, true, false, List, [], ◌∷◌, ◌++◌, length, take, drop}
+use Rattle.std.specs.Prelude.{ℕ, ◌<◌, ◌≤◌, ◌+◌, ◌-◌, Bool, true, false, List, [], ◌∷◌, ◌++◌, length, take, drop}
 use Rattle.std.specs.declared.option.Option.{Option}
 use Rattle.std.specs.declared.option.Option.TheVariants.{None, Some}
 use Rattle.wire_port.specs.declared.link.LastAnswer.{LastAnswer}
@@ -85,3 +85,23 @@ logged step log = record log { steps = log.steps ++ step ∷ []; left = log.left
 
 abbrev pub logged_bytes : ℕ → List ℕ → LogView → LogView
 logged_bytes conn bytes log = record { steps = log.steps ++ Took conn bytes ∷ []; left = log.left - 1; bytes_left = log.bytes_left - length bytes }
+
+-- after a `take` with this answer, and after a `give`
+abbrev pub log_after_take : ℕ → Answer → LogView → LogView
+log_after_take conn (Answer.Bytes bytes) log = logged_bytes conn bytes log
+log_after_take conn Answer.NotNow log = log
+log_after_take conn Answer.Gone log = logged (Gone conn) log
+
+abbrev pub log_after_give : ℕ → Answer → LogView → LogView
+log_after_give conn Answer.Gone log = logged (Gone conn) log
+log_after_give conn _ log = log
+
+-- there is memory for it
+abbrev pub RoomForTake : Answer → LogView → Type 0
+RoomForTake (Answer.Bytes bytes) log = (0 < log.left) × (length bytes ≤ log.bytes_left)
+RoomForTake Answer.NotNow log = Unit {0}
+RoomForTake Answer.Gone log = 0 < log.left
+
+abbrev pub RoomForGive : Answer → LogView → Type 0
+RoomForGive Answer.Gone log = 0 < log.left
+RoomForGive _ log = Unit {0}

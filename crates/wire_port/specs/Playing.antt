@@ -1,14 +1,16 @@
 -- What holds of a script wire at all times.
-use Rattle.std.specs.Prelude.{◌≡◌, ◌≤◌, ◌+◌, ◌*◌, ℕ, Bool, true, false, not, ◌==◌, List, [], ◌∷◌, ◌++◌, length, if◌then◌else◌, Vec, vec_len, vec_capacity}
+use Rattle.std.specs.Prelude.{◌≡◌, ◌≤◌, ◌+◌, ◌*◌, ℕ, Bool, true, false, not, ◌==◌, List, [], ◌∷◌, ◌++◌, length, map, drop, if◌then◌else◌, Vec, vec_len, vec_capacity}
 use Rattle.std.specs.List.{list_any}
 use Rattle.std.specs.declared.alloc.Global.{Global}
 use Rattle.wire_port.specs.declared.log.Mark.{Mark}
+use Rattle.wire_port.specs.declared.script.Line.{Line}
 use Rattle.wire_port.specs.Steps.{Step, opens, opens_once, has_gone, shuts, taken_from}
 use Rattle.wire_port.specs.Steps.Step.{Opened}
 use Rattle.wire_port.specs.Offers.{ScriptLine, opens_line, lines_open_once}
 use Rattle.wire_port.specs.Offers.ScriptLine.{Open, Send}
 use Rattle.wire_port.specs.Links.{LinkView, LogView, bytes_of, new_link}
-use Rattle.wire_port.specs.Slots.{conns, has_link, link_of}
+use Rattle.wire_port.specs.Scripts.{line_of}
+use Rattle.wire_port.specs.Slots.{SlotsView, conns, has_link, link_of}
 
 -- the marks are about the bytes that are kept, and both lie in their room
 pub record FitsLog (marks : Vec Mark Global) (bytes : Vec ℕ Global) (room byte_room : ℕ) : Type 0 where
@@ -89,3 +91,10 @@ pub record IsPlay (lines : List ScriptLine) (log : LogView) (links waiting : Lis
   pub fits : EachFits lines (links ++ waiting)
   pub left : sent lines + total spare links + 3 * length waiting ≤ log.left
   pub bytes_left : sent lines + total on_offer links ≤ log.bytes_left
+
+-- the lines that were played are lines, all the rest fits, and there is memory for the connections that are to open and for the ports
+pub record FitsPlay (lines : Vec Line Global) (played : ℕ) (log : LogView) (slots : SlotsView) (opened : Vec (ℕ × ℕ) Global) (ports : Vec ℕ Global) : Type 0 where
+  pub some : played ≤ vec_len lines
+  pub play : IsPlay (map line_of (drop played lines.items)) log slots.links slots.waiting opened.items
+  pub opened_memory : vec_len opened + length slots.waiting ≤ vec_capacity opened
+  pub ports_memory : 16 ≤ vec_capacity ports

@@ -7,6 +7,7 @@ ghost use Rattle.wire_port.specs.Steps.{opens_once};
 mod lines;
 mod link;
 mod log;
+mod play;
 mod read;
 mod script;
 mod slots;

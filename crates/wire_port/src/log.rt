@@ -1,9 +1,10 @@
 // The steps that a script wire tells, in memory that is made once.
 ghost use Rattle.std.specs.Prelude.{◌≡◌, ◌≤◌, ◌<◌, ◌+◌, [], ◌∷◌, ◌++◌, length, IfOk, vec_len, vec_capacity};
 ghost use Rattle.wire_port.specs.Steps.Step.{Opened, Gone, Shut};
-ghost use Rattle.wire_port.specs.Links.{logged, logged_bytes};
+ghost use Rattle.wire_port.specs.Calls.{TakenWithin, take_answered, give_answered};
+ghost use Rattle.wire_port.specs.Links.{logged, logged_bytes, log_after_take, log_after_give, RoomForTake, RoomForGive};
 
-use crate::Conn;
+use crate::{Conn, Given, Taken};
 use std::alloc::{AllocError, Global};
 use std::marker::Model;
 
@@ -98,5 +99,29 @@ impl StepLog {
             Err(_) => unreachable!(),
         }
         StepLog::push(&mut self.marks, Mark::Took(conn, bytes.len()));
+    }
+
+    /// A `take` was answered so, with the bytes in the front of this buffer.
+    pub fn after_take(&mut self, conn: Conn, answer: Taken, buf: &[u8])
+        requires within { TakenWithin answer (length buf.now) }
+        requires room { RoomForTake (take_answered answer buf.now) self.old }
+        ensures { self.new ≡ log_after_take conn (take_answered answer buf.now) self.old }
+    {
+        match answer {
+            Taken::Bytes(count) => self.took(conn, &buf[..count]),
+            Taken::NotNow => {}
+            Taken::Gone => self.gone(conn),
+        }
+    }
+
+    /// A `give` was answered so.
+    pub fn after_give(&mut self, conn: Conn, answer: Given, piece: &[u8])
+        requires { RoomForGive (give_answered answer piece.now) self.old }
+        ensures { self.new ≡ log_after_give conn (give_answered answer piece.now) self.old }
+    {
+        match answer {
+            Given::Gone => self.gone(conn),
+            _ => {}
+        }
     }
 }
