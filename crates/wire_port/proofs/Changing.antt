@@ -185,3 +185,15 @@ fits_here conn (link ∷ links) rest lines has fits = go (nat_eq link.peer.conn 
     go : (t : Bool) → nat_eq link.peer.conn conn ≡ t → (has_link conn links ≡ true → sent_on conn lines ≤ (link_of links conn).offers_left) → has_link conn (link ∷ links) ≡ true → sent_on conn lines ≤ (link_of (link ∷ links) conn).offers_left
     go true is more at = rw is (subst (λ (n : ℕ). sent_on n lines ≤ link.offers_left) (eqb-true link.peer.conn conn is) fits.0)
     go false is more at = rw is (more (rw is at at))
+
+-- of one to which nothing came yet, nothing more is seen
+pub fresh_joined : {A : Type 0} (links : List LinkView) (link : LinkView) (other : ℕ) (part : LinkView → A) → link ≡ new_link link.peer.conn link.offers_left → ((n m : ℕ) → part (new_link n m) ≡ part (new_link other 0))
+    → part (link_of (links ++ link ∷ []) other) ≡ part (link_of links other)
+fresh_joined links link other part fresh plain = go (has_link other links) refl
+  where
+    inner : (t : Bool) → nat_eq link.peer.conn other ≡ t → part (link_of (link ∷ []) other) ≡ part (new_link other 0)
+    inner true is = rw is (ap part fresh ∙ plain link.peer.conn link.offers_left)
+    inner false is = rw is refl
+    go : (t : Bool) → has_link other links ≡ t → part (link_of (links ++ link ∷ []) other) ≡ part (link_of links other)
+    go true has = ap part (link_joined links link other has)
+    go false has = ap part (link_behind links link other has) ∙ inner (nat_eq link.peer.conn other) refl ∙ sym (ap part (none_of links other has))

@@ -12,3 +12,4 @@ pub mod Stepping
 pub mod Moves
 pub mod Telling
 pub mod Fitting
+pub mod LineMoves

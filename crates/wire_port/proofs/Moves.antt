@@ -9,7 +9,7 @@ use Rattle.wire_port.specs.Offers.ScriptLine.{Open, Send, Drop, Room}
 use Rattle.wire_port.specs.Links.{LinkView, LogView, new_link, logged, logged_bytes, link_after_take, link_shut, link_offered}
 use Rattle.wire_port.specs.Slots.{conns, has_link, link_of, changed_link}
 use Rattle.wire_port.specs.Playing.{sent, sent_on, opened_by, opened_in, spare, on_offer, total, EachFits, EachFresh, IsPlay}
-use Rattle.wire_port.proofs.Changing.{Keeps, apart, kept, by_conn, has_changed, total_changed, fits_changed, each_fewer, weight_within, fits_here, link_joined, link_behind, none_of, has_joined, total_joined}
+use Rattle.wire_port.proofs.Changing.{Keeps, apart, kept, by_conn, has_changed, total_changed, fits_changed, each_fewer, weight_within, fits_here, fresh_joined, has_joined, total_joined}
 use Rattle.wire_port.proofs.Stepping.{any_behind, shuts_behind, taken_behind, opened_behind, once_behind}
 
 or_false : (t : Bool) → (t || false) ≡ t
@@ -295,9 +295,9 @@ opened_now conn port now log links waiting opened link conn_is play =
         linked = λ other.
           any_behind (opens other) log.steps (Opened conn port) ∙ ap (λ (t : Bool). t || nat_eq other conn) (play.linked other)
           ∙ ap (λ (t : Bool). has_link other links || t) (turned other conn ∙ ap (λ (n : ℕ). nat_eq n other) (sym conn_is)) ∙ sym (has_joined links link other);
-        gone = λ other. any_behind (λ step. is_gone_step other step) log.steps (Opened conn port) ∙ or_false (has_gone other log.steps) ∙ play.gone other ∙ sym (same other (λ l. l.is_gone) (λ n m. refl));
-        shut = λ other. ap (λ (n : ℕ). nat_eq n 0) (shuts_behind other log.steps (Opened conn port) ∙ zero_more (shuts other log.steps)) ∙ play.shut other ∙ sym (ap not (same other (λ l. l.peer.is_shut) (λ n m. refl)));
-        taken = λ other. taken_behind other log.steps (Opened conn port) ∙ zero_more (taken_from other log.steps) ∙ play.taken other ∙ sym (same other (λ l. l.taken) (λ n m. refl));
+        gone = λ other. any_behind (λ step. is_gone_step other step) log.steps (Opened conn port) ∙ or_false (has_gone other log.steps) ∙ play.gone other ∙ sym (fresh_joined links link other (λ l. l.is_gone) fresh (λ n m. refl));
+        shut = λ other. ap (λ (n : ℕ). nat_eq n 0) (shuts_behind other log.steps (Opened conn port) ∙ zero_more (shuts other log.steps)) ∙ play.shut other ∙ sym (ap not (fresh_joined links link other (λ l. l.peer.is_shut) fresh (λ n m. refl)));
+        taken = λ other. taken_behind other log.steps (Opened conn port) ∙ zero_more (taken_from other log.steps) ∙ play.taken other ∙ sym (fresh_joined links link other (λ l. l.taken) fresh (λ n m. refl));
         order = rest_of link.peer.conn conn (conns waiting) (opened_by now) play.order;
         fresh = play.fresh.1;
         fits = subst (EachFits now) (sym (append_assoc links (link ∷ []) waiting)) (each_fewer (links ++ link ∷ waiting) (Open conn port ∷ now) now (λ other. omega arith) play.fits);
@@ -328,14 +328,5 @@ opened_now conn port now log links waiting opened link conn_is play =
         go true has u at sum = behind (nat_eq other conn) (list_any (opens_line other) now) (play.apart other has)
         go false has true at sum = subst (λ (n : ℕ). list_any (opens_line n) now ≡ false) (sym conn_is ∙ eqb-true link.peer.conn other at) (both (list_any (opens_line conn) now) (lines_open_once now) play.lines_once).0
         go false has false at sum = absurd (cc (rw (has, at) at sum))
-    same : {A : Type 0} (other : ℕ) (part : LinkView → A) → ((n m : ℕ) → part (new_link n m) ≡ part (new_link other 0)) → part (link_of (links ++ link ∷ []) other) ≡ part (link_of links other)
-    same other part plain = go (has_link other links) refl
-      where
-        inner : (t : Bool) → nat_eq link.peer.conn other ≡ t → part (link_of (link ∷ []) other) ≡ part (new_link other 0)
-        inner true is = rw is (ap part play.fresh.0 ∙ plain link.peer.conn link.offers_left)
-        inner false is = rw is refl
-        go : (t : Bool) → has_link other links ≡ t → part (link_of (links ++ link ∷ []) other) ≡ part (link_of links other)
-        go true has = ap part (link_joined links link other has)
-        go false has = ap part (link_behind links link other has) ∙ inner (nat_eq link.peer.conn other) refl ∙ sym (ap part (none_of links other has))
     rest_of : (a b : ℕ) (front back : List ℕ) → (a ∷ front) ≡ (b ∷ back) → front ≡ back
     rest_of a b front back is = cc is

@@ -127,3 +127,12 @@ pub table_opens : (table : List ℕ) (links waiting now left : List LinkView) (l
 table_opens table links waiting now left link first joined is =
     let same : links ++ waiting ≡ now ++ left = ap (λ (all : List LinkView). links ++ all) first ∙ sym (append_assoc links (link ∷ []) left) ∙ ap (λ (all : List LinkView). all ++ left) (sym joined) in
     subst (λ (all : List LinkView). IsTable table (conns all)) same is
+
+-- where the connection is not among them, nothing changes
+pub none_changed : (conn : ℕ) (change : LinkView → LinkView) (links : List LinkView) → has_link conn links ≡ false → changed_link conn change links ≡ links
+none_changed conn change [] none = refl
+none_changed conn change (link ∷ links) none = go (nat_eq link.peer.conn conn) refl (none_changed conn change links) none
+  where
+    go : (t : Bool) → nat_eq link.peer.conn conn ≡ t → (has_link conn links ≡ false → changed_link conn change links ≡ links) → has_link conn (link ∷ links) ≡ false → changed_link conn change (link ∷ links) ≡ link ∷ links
+    go true is rest at = absurd (cc (rw is at at))
+    go false is rest at = rw is (ap (λ (all : List LinkView). link ∷ all) (rest (rw is at at)))

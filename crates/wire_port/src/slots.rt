@@ -85,38 +85,45 @@ impl Slots {
         self.links[place].shut();
     }
 
-    /// The peer of a connection that opened offers these bytes too.
+    /// The peer of a connection offers these bytes too, where it opened.
     pub fn offer(&mut self, conn: Conn, bytes: &[u8])
-        requires there { s.has_link conn self.old.links ≡ true }
-        requires left { length bytes.now ≤ (s.link_of self.old.links conn).offers_left }
+        requires { s.has_link conn self.old.links ≡ true → length bytes.now ≤ (s.link_of self.old.links conn).offers_left }
         ensures { self.new ≡ s.after_change conn (l.link_offered bytes.now) self.old }
     {
         let Some(place) = self.find(conn) else {
-            unreachable!()
+            return;
         };
         self.links[place].offer(bytes);
     }
 
-    /// The peer of a connection that opened is gone behind what it offered.
+    /// The peer of a connection is gone behind what it offered, where it opened.
     pub fn drop_peer(&mut self, conn: Conn)
-        requires there { s.has_link conn self.old.links ≡ true }
         ensures { self.new ≡ s.after_change conn l.link_dropped self.old }
     {
         let Some(place) = self.find(conn) else {
-            unreachable!()
+            return;
         };
         self.links[place].drop_peer();
     }
 
-    /// The peer of a connection that opened takes so many reply bytes more, or all.
+    /// The peer of a connection takes so many reply bytes more, or all, where it opened.
     pub fn set_room(&mut self, conn: Conn, room: Option<usize>)
-        requires there { s.has_link conn self.old.links ≡ true }
         ensures { self.new ≡ s.after_change conn (l.link_room room) self.old }
     {
         let Some(place) = self.find(conn) else {
-            unreachable!()
+            return;
         };
         self.links[place].set_room(room);
+    }
+
+    /// Whether the server shut a connection.
+    pub fn is_shut(&self, conn: Conn) -> bool
+        ensures { result ≡ (s.link_of self.now.links conn).peer.is_shut }
+    {
+        match self.link(conn) {
+            Some(link) => link.is_shut(),
+            None => false,
+        }
     }
 
     /// A connection that opened.

@@ -3,7 +3,7 @@ use Rattle.wire_port.specs.Offers.{take_answer, limited_answer}
 use Rattle.wire_port.specs.Calls.{take_answered, give_answered}
 use Rattle.wire_port.specs.Links.{LinkView, link_after_take, link_after_give, link_shut, link_offered, link_dropped, link_room}
 use Rattle.wire_port.specs.Slots.{SlotsView}
-use Rattle.wire_port.proofs.Places.{slot_changed, slot_is, table_stays}
+use Rattle.wire_port.proofs.Places.{slot_changed, slot_is, table_stays, there_at, none_changed}
 use Rattle.wire_port.proofs.Keeping as keeps
 use Rattle.wire_port.proofs.slots.Slots.offer.Goals as goal
 
@@ -23,4 +23,7 @@ returns c =
 pub offer-requires : goal.offer-requires
 offer-requires c =
     subst (λ (link : LinkView). length c.args.bytes.now ≤ link.offers_left)
-    (sym (slot_is c.args.conn c.self.inside.links.items c.in-Some.place c.index_mut.result.now (rw (← c.self.view_is) at c.in-Some.ensures) c.index_mut.ensures.value)) (rw (← c.self.view_is) at c.requires.left)
+    (sym (slot_is c.args.conn c.self.inside.links.items c.in-Some.place c.index_mut.result.now (rw (← c.self.view_is) at c.in-Some.ensures) c.index_mut.ensures.value)) ((rw (← c.self.view_is) at c.requires) (there_at c.args.conn c.self.inside.links.items c.in-Some.place (rw (← c.self.view_is) at c.in-Some.ensures)))
+
+pub returns-in_default : goal.returns-in_default
+returns-in_default c = ap (λ (links : List LinkView). record { links = links; waiting = c.args.self.now.waiting }) (sym (none_changed c.args.conn (link_offered c.args.bytes.now) c.args.self.now.links c.in_default.ensures))
