@@ -13,3 +13,4 @@ pub mod Moves
 pub mod Telling
 pub mod Fitting
 pub mod LineMoves
+pub mod Readying

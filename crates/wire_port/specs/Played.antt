@@ -75,3 +75,15 @@ lines_behind (line ∷ lines) = lines
 abbrev pub faults_after : Bool → ℕ → ℕ
 faults_after true faults = raised faults 1
 faults_after false faults = faults
+
+-- nothing of these lines was played, and nothing happened
+pub record IsNew (lines : List ScriptLine) (fails : List ℕ) (play : PlayView) : Type 0 where
+  pub lines_are : play.lines ≡ lines
+  pub steps : play.log.steps ≡ []
+  pub links : play.slots.links ≡ []
+  pub calls_are : play.calls ≡ record { fails = fails; made = 0 }
+  pub faults : play.faults ≡ 0
+  pub ports : play.ports ≡ []
+  pub down : play.up ≡ false
+  pub not_over : play.over ≡ false
+

@@ -1,5 +1,5 @@
 -- What holds of a script wire at all times.
-use Rattle.std.specs.Prelude.{◌≡◌, ◌≤◌, ◌+◌, ◌*◌, ℕ, Bool, true, false, not, ◌==◌, List, [], ◌∷◌, ◌++◌, length, map, drop, if◌then◌else◌, Vec, vec_len, vec_capacity}
+use Rattle.std.specs.Prelude.{◌≡◌, ◌≤◌, ◌<◌, ◌+◌, ◌*◌, ℕ, Bool, true, false, not, ◌==◌, List, [], ◌∷◌, ◌++◌, length, map, drop, slice_index_or, if◌then◌else◌, Vec, vec_len, vec_capacity}
 use Rattle.std.specs.List.{list_any}
 use Rattle.std.specs.declared.alloc.Global.{Global}
 use Rattle.wire_port.specs.declared.log.Mark.{Mark}
@@ -10,7 +10,7 @@ use Rattle.wire_port.specs.Offers.{ScriptLine, opens_line, lines_open_once}
 use Rattle.wire_port.specs.Offers.ScriptLine.{Open, Send}
 use Rattle.wire_port.specs.Links.{LinkView, LogView, bytes_of, new_link}
 use Rattle.wire_port.specs.Scripts.{line_of}
-use Rattle.wire_port.specs.Slots.{SlotsView, conns, has_link, link_of}
+use Rattle.wire_port.specs.Slots.{SlotsView, IsTable, conns, has_link, link_of}
 
 -- the marks are about the bytes that are kept, and both lie in their room
 pub record FitsLog (marks : Vec Mark Global) (bytes : Vec ℕ Global) (room byte_room : ℕ) : Type 0 where
@@ -98,3 +98,27 @@ pub record FitsPlay (lines : Vec Line Global) (played : ℕ) (log : LogView) (sl
   pub play : IsPlay (map line_of (drop played lines.items)) log slots.links slots.waiting opened.items
   pub opened_memory : vec_len opened + length slots.waiting ≤ vec_capacity opened
   pub ports_memory : 16 ≤ vec_capacity ports
+
+-- ---- connections that are made before the first line is played
+
+-- of all lines, those up to the ones that are left have their connections
+pub record Prepared (all left : List ScriptLine) (waiting : List LinkView) (table : List ℕ) : Type 0 where
+  pub once : lines_open_once left ≡ true
+  pub order : conns waiting ++ opened_by left ≡ opened_by all
+  pub apart : (place : ℕ) → place < length waiting → list_any (opens_line (slice_index_or (conns waiting) place 0)) left ≡ false
+  pub fresh : EachFresh waiting
+  pub fits : EachFits all waiting
+  pub places : IsTable table (conns waiting)
+
+-- a table has how many bytes the lines offer on each connection
+pub record Offers (table : List ℕ) (lines : List ScriptLine) : Type 0 where
+  pub all : length table ≡ 65536
+  pub each : (conn default : ℕ) → conn < 65536 → slice_index_or table conn default ≡ sent_on conn lines
+
+-- all connections of the lines are to open
+pub record IsReady (lines : List ScriptLine) (slots : SlotsView) : Type 0 where
+  pub links : slots.links ≡ []
+  pub order : conns slots.waiting ≡ opened_by lines
+  pub fresh : EachFresh slots.waiting
+  pub fits : EachFits lines slots.waiting
+

@@ -9,6 +9,7 @@ mod link;
 mod log;
 mod play;
 mod read;
+mod ready;
 mod script;
 mod slots;
 mod wire;

@@ -3,7 +3,7 @@ ghost use Rattle.std.specs.Prelude.{◌≡◌, ◌<◌, ◌≤◌, ◌+◌, ◌+
 ghost use Rattle.std.specs.Result.{is_ok, is_err};
 ghost use Rattle.base_types.specs.Calls.{after_call};
 ghost use Rattle.wire_port.specs.Steps.{taken_from};
-ghost use Rattle.wire_port.specs.Offers.{peer_of, take_answer, limited_answer};
+ghost use Rattle.wire_port.specs.Offers.{lines_open_once, peer_of, take_answer, limited_answer};
 ghost use Rattle.wire_port.specs.Calls as c;
 ghost use Rattle.wire_port.specs.Scripts.{line_of};
 ghost use Rattle.wire_port.specs.Slots.{peers_of};
@@ -11,10 +11,12 @@ ghost use Rattle.wire_port.specs.Playing.{IsPlay, opened_in};
 ghost use Rattle.wire_port.specs.Played as p;
 
 use crate::log::StepLog;
+use crate::ready::all_offers;
 use crate::script::Line;
 use crate::slots::Slots;
 use crate::{Conn, Found, Given, PollFault, Taken};
 use base_types::FailingCalls;
+use std::alloc::{AllocError, Global};
 use std::marker::Model;
 
 /// The lines of a script and how many of them were played, with the connections and the steps.
@@ -133,6 +135,37 @@ fn push_opened(opened: &mut Vec<(Conn, u16)>, conn: Conn, port: u16)
 }
 
 impl Play {
+    // All memory is made here.
+    pub fn new(alloc: Global, lines: Vec<Line>, fails: Vec<u64>) -> Result<Play, AllocError>
+        requires { lines_open_once (map line_of lines.items) ≡ true }
+        ensures { IfOk result (p.IsNew (map line_of lines.items) fails.items) }
+    {
+        let slots = Slots::ready(alloc, &lines)?;
+        let opens = slots.waiting();
+        let sent = all_offers(&lines)?;
+        let Some(told) = opens.checked_mul(3) else {
+            return Err(AllocError);
+        };
+        let Some(room) = sent.checked_add(told) else {
+            return Err(AllocError);
+        };
+        let log = StepLog::with_room(alloc, room, sent)?;
+        let opened = Vec::with_capacity(alloc, opens)?;
+        let ports = Vec::with_capacity(alloc, 16)?;
+        Ok(Play {
+            lines,
+            played: 0,
+            slots,
+            log,
+            opened,
+            calls: FailingCalls::new(fails),
+            faults: 0,
+            ports,
+            up: false,
+            over: false,
+        })
+    }
+
     pub fn take(&mut self, conn: Conn, buf: &mut [u8]) -> Taken
         requires some { 0 < length buf.old }
         requires open { c.IsOpen conn (p.wire_of self.old) }

@@ -1,12 +1,17 @@
 // The connections of a script wire, found by their numbers.
-ghost use Rattle.std.specs.Prelude.{◌≡◌, ◌<◌, ◌≤◌, ◌++◌, ◌∷◌, [], length, false, true, MatchOption, IfSome};
-ghost use Rattle.wire_port.specs.Offers.{take_answer, limited_answer};
+ghost use Rattle.std.specs.Prelude.{◌≡◌, ◌<◌, ◌≤◌, ◌++◌, ◌∷◌, [], length, map, false, true, MatchOption, IfOk};
+ghost use Rattle.wire_port.specs.Scripts.{line_of};
+ghost use Rattle.wire_port.specs.Playing.{IsReady};
+ghost use Rattle.wire_port.specs.Offers.{lines_open_once, take_answer, limited_answer};
 ghost use Rattle.wire_port.specs.Calls as c;
 ghost use Rattle.wire_port.specs.Links as l;
 ghost use Rattle.wire_port.specs.Slots as s;
 
 use crate::link::Link;
+use crate::ready::waiting_links;
+use crate::script::Line;
 use crate::{Conn, Given, Taken};
+use std::alloc::{AllocError, Global};
 use std::collections::VecDeque;
 use std::marker::Model;
 
@@ -30,6 +35,27 @@ impl Model for Slots {
 }
 
 impl Slots {
+    /// The connections that the lines open, all of them to open.
+    pub fn ready(alloc: Global, lines: &[Line]) -> Result<Slots, AllocError>
+        requires { lines_open_once (map line_of lines.now) ≡ true }
+        ensures { IfOk result (IsReady (map line_of lines.now)) }
+    {
+        let (waiting, table) = waiting_links(alloc, lines)?;
+        let links = Vec::with_capacity(alloc, waiting.len())?;
+        Ok(Slots {
+            links,
+            waiting,
+            table,
+        })
+    }
+
+    /// How many are to open.
+    pub fn waiting(&self) -> usize
+        ensures { result ≡ length self.now.waiting }
+    {
+        self.waiting.len()
+    }
+
     // The place of a connection that opened.
     fn find(&self, conn: Conn) -> Option<usize>
         ensures { MatchOption result (s.has_link conn self.now.links ≡ false) (s.IsPlace conn self.now.links) }
