@@ -2,13 +2,12 @@
 use Rattle.std.proofs.Common.{◌≡◌, ℕ, zero, suc, Bool, true, List, [], ◌∷◌, ◌++◌, length, refl, ap, sym, ◌∙◌, append_assoc}
 use Rattle.std.proofs.lemmas.List.{append-nil}
 use Rattle.scan_bits.specs.Words.{packed}
-use Rattle.chain_model.specs.Chains.{ChainState}
 use Rattle.chain_model.specs.Cycles.{rise, fall, after_cycles, answers, clocks}
 use Rattle.xvc_frame.specs.Messages.{Message}
 use Rattle.xvc_frame.specs.Messages.Message.{GetInfo, SetTck, Shift}
 use Rattle.client_session.specs.Acts.{Act, shift_acts, message_acts, info}
 use Rattle.client_session.specs.Acts.Act.{Say, Sample, Rise, Fall, Pack}
-use Rattle.client_session.specs.Seats.{Seat, acted, advanced, advanced_by, finished, IsFinished}
+use Rattle.client_session.specs.Seats.{Seat, acted, advanced, advanced_by, finished}
 use Rattle.client_session.specs.Replies.{reply_to, after_message}
 use Rattle.client_session.proofs.Later.{finished-advanced}
 

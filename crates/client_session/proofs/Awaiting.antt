@@ -1,14 +1,11 @@
 -- A seat of Xilinx Virtual Cable 1.0 that has nothing left to do but to wait for bytes: what its unused bytes make of it.
-use Rattle.std.proofs.Common.{◌≡◌, ℕ, suc, ◌+◌, ◌≤◌, ◌<◌, Bool, true, false, cond, List, [], ◌∷◌, ◌++◌, length, drop, refl, ap, sym, ◌∙◌, arith, Some, None, nat_le, subst}
+use Rattle.std.proofs.Common.{◌≡◌, ℕ, ◌+◌, ◌≤◌, ◌<◌, Bool, true, false, List, [], ◌∷◌, ◌++◌, length, drop, refl, ap, sym, ◌∙◌, arith, Some, None, nat_le}
 use Rattle.std.proofs.lemmas.Bool.{le-leb, leb-true}
-use Rattle.std.specs.declared.option.Option.{Option}
-use Rattle.grant_table.specs.declared.Protocol.{Protocol}
 use Rattle.grant_table.specs.declared.Protocol.TheVariants.{Xvc}
 use Rattle.xvc_frame.specs.Messages.{Message, Framed, Refusal, front, refused}
 use Rattle.client_session.specs.declared.End.{End}
 use Rattle.client_session.specs.Acts.{message_acts}
-use Rattle.client_session.specs.Seats.{Seat, Next, next_xvc, next_in, load_next, loaded, without_message, advanced, finished, IsFinished, ended, taken, most_bytes, gone_end}
-use Rattle.client_session.specs.Private.{dropped}
+use Rattle.client_session.specs.Seats.{Seat, next_xvc, load_next, without_message, advanced, finished, ended, taken, most_bytes, gone_end}
 pub use Rattle.client_session.specs.Places.{Awaits}
 use Rattle.client_session.specs.Replies.{reply_to, after_message}
 use Rattle.client_session.proofs.Later.{finished-advanced, finished_stays}

@@ -12,3 +12,6 @@ pub mod Opening
 pub mod Itself
 pub mod Replies
 pub mod Short
+pub mod Shut
+pub mod Resting
+pub mod Untouched

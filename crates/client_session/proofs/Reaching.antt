@@ -1,19 +1,16 @@
 -- A session of Xilinx Virtual Cable 1.0 from one message to the next: where its bytes lead from a place at which no message is begun.
-use Rattle.std.proofs.Common.{◌≡◌, ◌≤◌, ◌<◌, ℕ, ◌+◌, ◌-◌, Bool, true, false, not, ◌&&◌, cond, List, [], ◌∷◌, ◌++◌, length, take, refl, ap, sym, ◌∙◌, arith, length-append, Some, None}
+use Rattle.std.proofs.Common.{◌≡◌, ◌≤◌, ◌<◌, ℕ, ◌+◌, ◌-◌, true, not, ◌&&◌, cond, List, [], ◌++◌, length, refl, ap, sym, ◌∙◌, arith, length-append, Some, None}
 use Rattle.std.proofs.lemmas.List.{take_all}
 use Rattle.std.proofs.lemmas.Bool.{eq-eqb}
 use Rattle.chain_model.specs.Chains.{ChainState}
-use Rattle.grant_table.specs.declared.Protocol.{Protocol}
-use Rattle.grant_table.specs.declared.Protocol.TheVariants.{Xvc}
 use Rattle.xvc_frame.specs.Messages.{Message, Refusal, front, refused}
 use Rattle.client_session.specs.declared.End.{End}
-use Rattle.client_session.specs.Seats.{Seat, EndedSession, finished, ended, taken, most_bytes, gone_end}
+use Rattle.client_session.specs.Seats.{Seat, finished, ended, taken, most_bytes, gone_end}
 use Rattle.client_session.specs.Private.{took, dropped, received, is_live}
 pub use Rattle.client_session.specs.Places.{seat_at, Reaches}
 use Rattle.client_session.specs.Replies.{reply_to, after_message}
-use Rattle.client_session.proofs.Later.{finished_stays}
 use Rattle.client_session.proofs.Joins.{joined_took}
-use Rattle.client_session.proofs.Awaiting.{Awaits, serves, served, refuses, waits, runs_long, leaves}
+use Rattle.client_session.proofs.Awaiting.{Awaits, serves, refuses, waits, runs_long, leaves}
 
 awaits_there : (start : Seat) (unused : List ℕ) (used : ℕ) (chain : ChainState) (replies : List ℕ) → Awaits start → Awaits (seat_at start unused used chain replies)
 awaits_there start unused used chain replies awaits = record { going = awaits.going; here = awaits.here; acts = awaits.acts; sampled = awaits.sampled; protocol = awaits.protocol }

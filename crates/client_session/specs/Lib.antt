@@ -7,3 +7,4 @@ pub mod Replies
 pub mod Paces
 pub mod Laws
 pub mod Places
+pub mod Stores

@@ -50,13 +50,13 @@ is_leaving Stand.Leaving = true
 is_leaving _ = false
 
 -- how many bytes make a difference to a session: the fewest that complete a message of XVC 1.0; of remote_bitbang, 16 letters
-abbrev pub wanted_by : Protocol → Seat → ℕ
-wanted_by Xvc seat = want seat.vector seat.unused
-wanted_by Bitbang seat = 16
+abbrev pub wanted_by : Protocol → (vector : ℕ) → (unused : List ℕ) → ℕ
+wanted_by Xvc vector unused = want vector unused
+wanted_by Bitbang vector unused = 16
 
 -- how many bytes a session wants next; no more than are left to the most bytes of one session
 abbrev pub session_wants : Seat → ℕ
-session_wants seat = min (wanted_by seat.protocol seat) (most_bytes - taken seat)
+session_wants seat = min (wanted_by seat.protocol seat.vector seat.unused) (most_bytes - taken seat)
 
 -- the session shows the seat: each part of it, and its replies in what the peer was given and what is left to give
 pub record Shows (view : SessionView) (waits : Bool) (seat : Seat) (given : List ℕ) : Type 0 where

@@ -7,6 +7,12 @@ ghost use Rattle.client_session.specs.Private.{Event, after_events};
 ghost use Rattle.client_session.specs.Private.Event.{Took};
 ghost use Rattle.client_session.specs.Laws.{NoneWaitsByItself, MessagesReplyShort, LettersReplyShort};
 
+mod input;
+mod progress;
+mod session;
+
+pub use session::Session;
+
 /// How a session ended. Bytes are counted from 0, from the first of the session.
 #[derive(Clone, Copy, Debug, PartialEq, Eq)]
 pub enum End {
