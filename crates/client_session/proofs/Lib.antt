@@ -15,3 +15,6 @@ pub mod Short
 pub mod Shut
 pub mod Resting
 pub mod Untouched
+pub mod Cycles
+pub mod Quietly
+pub mod ShiftCycles

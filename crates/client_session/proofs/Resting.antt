@@ -5,16 +5,13 @@ use Rattle.std.proofs.lemmas.Bool.{eq-eqb}
 use Rattle.chain_token.specs.Waiting.{is_among, with_waiting, may_open}
 use Rattle.client_session.specs.Seats.{advanced, steps_left, opens_next}
 use Rattle.client_session.specs.Turns.{LayoutShape, Turn, is_holder, frees, stepped, put_in_line, advanced_as, advanced_turn, advanced_turns, gone_on}
+use Rattle.client_session.specs.Going.{Holds}
 use Rattle.client_session.proofs.Steps.{work, work_within, advanced_moves}
 use Rattle.client_session.proofs.Opening.{opens_opens, opens_moves}
 use Rattle.client_session.proofs.Shut.{advanced_shut}
 
 never : {A : Type 0} → false ≡ true → A
 never e = absurd (let q : false ≡ true = e in cc)
-
--- the grant holds the chain exactly where its seat has a scan open
-abbrev pub Holds : ℕ → Turn → Type 0
-Holds grant turn = is_holder turn.holder grant ≡ turn.seat.chain.scan_open
 
 -- a step changes nothing
 abbrev pub Rests : LayoutShape → ℕ → Turn → Type 0

@@ -1,12 +1,12 @@
 -- Edges of TCK that capture and update nothing leave what the devices hold; and while a scan is open they leave the codes in force.
-use Rattle.std.proofs.Common.{◌≡◌, Bool, true, false, List, [], ◌∷◌, map, refl, ap, sym, ◌∙◌}
+use Rattle.std.proofs.Common.{◌≡◌, Bool, true, false, cond, List, [], ◌∷◌, map, refl, ap, sym, ◌∙◌}
 use Rattle.tap_states.specs.declared.Tap.{Tap}
 use Rattle.tap_states.specs.declared.Tap.TheVariants.{TestLogicReset, RunTestIdle, SelectDr, CaptureDr, ShiftDr, Exit1Dr, PauseDr, Exit2Dr, UpdateDr, SelectIr, CaptureIr, ShiftIr, Exit1Ir, PauseIr, Exit2Ir, UpdateIr}
 use Rattle.tap_states.specs.States.{is_capture_dr}
 use Rattle.scan_bits.specs.Registers.{lowest_or}
-use Rattle.chain_model.specs.Chains.{ChainState, DeviceState}
-use Rattle.chain_model.specs.Cycles.{rise, fall, on_rise, on_fall, shifted_dr, shifted_ir, capture_ir, update_ir, reset_code, captured_from}
-use Rattle.scan_share.specs.Scans.{contents_of, code_list}
+use Rattle.chain_model.specs.Chains.{ChainState, DeviceState, reset, reset_device}
+use Rattle.chain_model.specs.Cycles.{rise, fall, on_rise, on_fall, shifted_dr, shifted_ir, capture_ir, update_ir, reset_code, captured_from, update_device}
+use Rattle.scan_share.specs.Scans.{contents_of, code_list, types_of}
 use Rattle.scan_share.specs.Timing.{may_scan, IsTimed}
 
 never : {A : Type 0} → false ≡ true → A
@@ -156,3 +156,66 @@ fall_codes tck chain timed is_open h = at chain.state (timed is_open) h
     at Exit1Ir m k = refl
     at PauseIr m k = refl
     at Exit2Ir m k = refl
+
+-- ---- the device types
+
+shifted_dr_types : (tdi : Bool) (ds : List DeviceState) → each (λ d. d.part) (shifted_dr tdi ds) ≡ each (λ d. d.part) ds
+shifted_dr_types tdi [] = refl
+shifted_dr_types tdi (d ∷ ds) = ap (λ rest. d.part ∷ rest) (shifted_dr_types (lowest_or tdi d.dr_stage) ds)
+
+shifted_ir_types : (tdi : Bool) (ds : List DeviceState) → each (λ d. d.part) (shifted_ir tdi ds) ≡ each (λ d. d.part) ds
+shifted_ir_types tdi [] = refl
+shifted_ir_types tdi (d ∷ ds) = ap (λ rest. d.part ∷ rest) (shifted_ir_types (lowest_or tdi d.ir_stage) ds)
+
+captured_types : (chain : ChainState) (place : _) (ds : List DeviceState) → each (λ d. d.part) (captured_from chain place ds) ≡ each (λ d. d.part) ds
+captured_types chain place [] = refl
+captured_types chain place (d ∷ ds) = ap (λ rest. d.part ∷ rest) (captured_types chain _ ds)
+
+pub rise_types : (chain : ChainState) (tms tdi : Bool) → types_of (rise chain tms tdi) ≡ types_of chain
+rise_types chain tms tdi = at chain.state
+  where
+    at : (t : Tap) → types_of (on_rise t chain tdi) ≡ types_of chain
+    at CaptureDr = captured_types chain 0 chain.devices
+    at ShiftDr = shifted_dr_types tdi chain.devices
+    at CaptureIr = each_kept (λ d. d.part) capture_ir (λ d. refl) chain.devices
+    at ShiftIr = shifted_ir_types tdi chain.devices
+    at TestLogicReset = refl
+    at RunTestIdle = refl
+    at SelectDr = refl
+    at Exit1Dr = refl
+    at PauseDr = refl
+    at Exit2Dr = refl
+    at UpdateDr = refl
+    at SelectIr = refl
+    at Exit1Ir = refl
+    at PauseIr = refl
+    at Exit2Ir = refl
+    at UpdateIr = refl
+
+updated_types : (b : Bool) (chain : ChainState) → types_of (cond b (record chain { scan_open = false; devices = map update_device chain.devices }) chain) ≡ types_of chain
+updated_types true chain = each_kept (λ d. d.part) update_device (λ d. refl) chain.devices
+updated_types false chain = refl
+
+pub fall_types : (chain : ChainState) → types_of (fall chain) ≡ types_of chain
+fall_types chain = at chain.state
+  where
+    at : (t : Tap) → types_of (on_fall t chain) ≡ types_of chain
+    at UpdateDr = updated_types chain.scan_open chain
+    at UpdateIr = each_kept (λ d. d.part) update_ir (λ d. refl) chain.devices
+    at TestLogicReset = each_kept (λ d. d.part) reset_code (λ d. refl) chain.devices
+    at CaptureDr = refl
+    at ShiftDr = refl
+    at CaptureIr = refl
+    at ShiftIr = refl
+    at RunTestIdle = refl
+    at SelectDr = refl
+    at Exit1Dr = refl
+    at PauseDr = refl
+    at Exit2Dr = refl
+    at SelectIr = refl
+    at Exit1Ir = refl
+    at PauseIr = refl
+    at Exit2Ir = refl
+
+pub reset_types : (chain : ChainState) → types_of (reset chain) ≡ types_of chain
+reset_types chain = each_kept (λ d. d.part) reset_device (λ d. refl) chain.devices

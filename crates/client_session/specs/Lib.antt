@@ -8,3 +8,4 @@ pub mod Paces
 pub mod Laws
 pub mod Places
 pub mod Stores
+pub mod Going

@@ -10,6 +10,7 @@ ghost use Rattle.client_session.specs.Laws.{NoneWaitsByItself, MessagesReplyShor
 mod input;
 mod progress;
 mod session;
+mod shift;
 
 pub use session::Session;
 
