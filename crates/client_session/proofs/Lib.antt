@@ -18,3 +18,6 @@ pub mod Untouched
 pub mod Cycles
 pub mod Quietly
 pub mod ShiftCycles
+pub mod Alike
+pub mod Shared
+pub mod Sharing

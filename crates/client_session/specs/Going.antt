@@ -1,11 +1,12 @@
 -- A session on its way through its acts, beside the turn that it stands for.
-use Rattle.std.specs.Prelude.{ℕ, ◌≡◌, ◌≤◌, ◌<◌, Bool, true, false, ◌∷◌, take, drop, slice_set}
+use Rattle.std.specs.Prelude.{ℕ, ◌-◌, ◌≡◌, ◌≢◌, ◌≤◌, ◌<◌, List, Bool, true, false, ◌∷◌, take, drop, slice_set}
 use Rattle.std.specs.declared.option.Option.TheVariants.{Some}
 use Rattle.tap_states.specs.declared.Tap.TheVariants.{UpdateDr}
 use Rattle.scan_bits.specs.Registers.{joined}
 use Rattle.chain_model.specs.Chains.{ChainState}
 use Rattle.chain_model.specs.Cycles.{fall, dr_stages}
-use Rattle.scan_share.specs.Scans.{code_list, contents_of, types_of}
+use Rattle.base_types.specs.Counts.{raised}
+use Rattle.scan_share.specs.Scans.{code_list, contents_of, types_of, with_contents, IsWithin}
 use Rattle.xvc_frame.specs.Frames.{FrameState, tms_bits, tdi_bits}
 use Rattle.virtual_tap.specs.Taps.{VTapState, ScansAt}
 use Rattle.virtual_tap.specs.Views.{TapView, StandsFor, at_capture, closed_view}
@@ -14,6 +15,7 @@ use Rattle.client_session.specs.declared.shift.Pause.TheVariants.{Made, Capture,
 use Rattle.client_session.specs.Acts.{shift_acts}
 use Rattle.client_session.specs.Acts.Act.{Fall}
 use Rattle.client_session.specs.Seats.{Seat}
+use Rattle.client_session.specs.Sessions.{DeskView, Serves}
 use Rattle.client_session.specs.Turns.{LayoutShape, Turn, is_holder, advanced_turns}
 
 -- the view once an open scan is closed where its register is written back
@@ -93,3 +95,15 @@ abbrev pub PausesWell : Pause → VTapState → (cycles : ℕ) → Type 0
 PausesWell Made tap cycles = ScansAt false tap.view
 PausesWell (Capture at) tap cycles = ScansAt false tap.view × (at_capture tap.view ≡ true) × (at < cycles)
 PausesWell (Update at) tap cycles = ScansAt false (closed_view tap.view) × (tap.view.scan_open ≡ true) × (at ≤ cycles)
+
+-- ---- the shared chain
+
+-- from one desk and turn of the grant the session came to another: the desk serves the turn, all other devices hold what they held, another
+-- holder's scan is not touched, and the chain made no more cycles than are due
+pub record Follows (layout : LayoutShape) (group : List ℕ) (grant : ℕ) (base_desk : DeskView) (base : Turn) (desk : DeskView) (turn : Turn) : Type 0 where
+  pub serves : Serves layout group grant desk turn
+  pub others : contents_of desk.chain ≡ with_contents group (contents_of turn.seat.chain) (contents_of base_desk.chain)
+  pub held : (holder : ℕ) → base_desk.holder ≡ Some holder → holder ≢ grant → desk.holder ≡ Some holder
+  pub untouched : (holder : ℕ) → base_desk.holder ≡ Some holder → holder ≢ grant → (desk.chain ≡ base_desk.chain) × (desk.scan ≡ base_desk.scan)
+  pub due : base.cost ≤ turn.cost
+  pub made : IsWithin desk.chain.made (raised base_desk.chain.made (turn.cost - base.cost))

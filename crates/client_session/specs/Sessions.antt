@@ -1,5 +1,5 @@
 -- What a session shows of a seat, what a desk shows of the shared chain, and what a call of the session does to both.
-use Rattle.std.specs.Prelude.{ℕ, ◌-◌, min, ◌≡◌, ◌≢◌, Bool, true, false, List, [], ◌∷◌, ◌++◌, drop, length, if◌then◌else◌}
+use Rattle.std.specs.Prelude.{ℕ, ◌-◌, ◌^◌, ◌<◌, min, ◌≡◌, ◌≢◌, Bool, true, false, List, [], ◌∷◌, ◌++◌, drop, length, if◌then◌else◌}
 use Rattle.std.specs.declared.option.Option.{Option}
 use Rattle.std.specs.declared.option.Option.TheVariants.{None, Some}
 use Rattle.grant_table.specs.declared.Protocol.{Protocol}
@@ -10,14 +10,15 @@ use Rattle.part_model.specs.Parts.{DeviceType}
 use Rattle.base_types.specs.Counts.{raised}
 use Rattle.chain_model.specs.Chains.{ChainState}
 use Rattle.chain_model.specs.Cycles.{ir_stages}
-use Rattle.scan_share.specs.PrivateChains.{entries_at}
-use Rattle.scan_share.specs.Scans.{contents_of, with_contents, code_list, types_of, IsParked, IsOpenFor, IsOver, IsWhole, IsWithin}
+use Rattle.scan_share.specs.PrivateChains.{entries_at, nets_within}
+use Rattle.scan_share.specs.Scans.{contents_of, with_contents, code_list, types_of, IsParked, IsOpenFor, IsWhole, IsWithin}
 use Rattle.virtual_tap.specs.Views.{TapView, StandsFor}
 use Rattle.client_session.specs.declared.Stand.{Stand}
 use Rattle.client_session.specs.declared.Stop.{Stop}
 use Rattle.client_session.specs.Acts.{Act}
 use Rattle.client_session.specs.Seats.{Seat, EndedSession, most_bytes, taken, replies_now, finished}
 use Rattle.client_session.specs.Turns.{Turn, is_among, is_holder}
+use Rattle.client_session.specs.Paces.{IsSeatOver}
 
 -- what a session shows: as a seat, with a virtual TAP in place of the chain, and with the reply that its peer has not yet been given
 pub record SessionView : Type 0 where
@@ -98,10 +99,11 @@ KeepsChain layout group grant None desk seat = (desk.scan ≡ None) × IsParked 
 KeepsChain layout group grant (Some holder) desk seat = holder ≡ grant → KeepsScan layout group grant desk seat
 
 -- the desk serves a grant's turn: it shows the turn's holder and those that wait, and on the shared chain the group's devices
--- hold what the seat's devices hold
+-- hold what the seat's devices hold; the seat's chain is made of the group's devices, with its protocol's edges left
 pub record Serves (layout : LayoutShape) (group : List ℕ) (grant : ℕ) (desk : DeskView) (turn : Turn) : Type 0 where
   pub whole : IsWhole layout desk.chain
-  pub over : IsOver layout group turn.seat.chain
+  pub over : IsSeatOver turn.seat.protocol (entries_at layout.parts group) (nets_within group layout.nets) turn.seat
+  pub counted : desk.chain.made < 2 ^ 64
   pub holder : desk.holder ≡ turn.holder
   pub waiting : desk.waiting ≡ turn.waiting
   pub holds : is_holder turn.holder grant ≡ turn.seat.chain.scan_open
