@@ -21,3 +21,5 @@ pub mod ShiftCycles
 pub mod Alike
 pub mod Shared
 pub mod Sharing
+pub mod Attending
+pub mod Entering

@@ -48,7 +48,7 @@ pub record Opens (seat : Seat) : Type 0 where
   pub shut : seat.chain.scan_open ≡ false
   pub rises : rises_next seat.acts seat ≡ true
 
-not_true : (a : Bool) → not a ≡ true → a ≡ false
+pub not_true : (a : Bool) → not a ≡ true → a ≡ false
 not_true true h = false_true h
 not_true false h = refl
 

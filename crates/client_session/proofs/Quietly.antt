@@ -5,12 +5,12 @@ use Rattle.tap_states.specs.States.{is_capture_dr}
 use Rattle.client_session.specs.Acts.{Act}
 use Rattle.client_session.specs.Seats.{Seat, acted, advanced, opens_next, rises_next}
 use Rattle.client_session.specs.Turns.{LayoutShape, Turn, frees, stepped, advanced_turn, advanced_turns, gone_on}
-use Rattle.client_session.specs.Going.{Holds, Quiet, Leads}
+use Rattle.client_session.specs.Going.{Holds, Quiet, Leads, GoesTo}
 use Rattle.client_session.proofs.Answering.{one_act}
 use Rattle.client_session.proofs.Resting.{holds_step, gone_on-advanced}
 
 module _ (layout : LayoutShape) (grant : ℕ) where
-  advanced_turns-add : (m n : ℕ) (turn : Turn) → advanced_turns (m + n) layout grant turn ≡ advanced_turns n layout grant (advanced_turns m layout grant turn)
+  pub advanced_turns-add : (m n : ℕ) (turn : Turn) → advanced_turns (m + n) layout grant turn ≡ advanced_turns n layout grant (advanced_turns m layout grant turn)
   advanced_turns-add zero n turn = let none : 0 + n ≡ n = omega arith in ap (λ k. advanced_turns k layout grant turn) none
   advanced_turns-add (suc m) n turn =
       let one : suc m + n ≡ suc (m + n) = omega arith in
@@ -100,6 +100,22 @@ leads_more layout grant P Q turn first more =
     record {
       next = then.next;
       quiet = quiet_more layout grant turn first.next then.next first.quiet then.quiet;
+      kept = then.kept ∙ ap (λ (seat : Seat). record seat { chain = then.next.seat.chain; acts = then.next.seat.acts; sampled = then.next.seat.sampled }) first.kept;
+      there = then.there;
+    }
+
+-- ---- where steps lead
+
+pub goes_none : (layout : LayoutShape) (grant : ℕ) (P : Turn → Type 0) (turn : Turn) → P turn → GoesTo layout grant P turn
+goes_none layout grant P turn there = record { next = turn; steps = 0; made = refl; kept = refl; there = there }
+
+pub goes_more : (layout : LayoutShape) (grant : ℕ) (P Q : Turn → Type 0) (turn : Turn) → GoesTo layout grant P turn → ((next : Turn) → P next → GoesTo layout grant Q next) → GoesTo layout grant Q turn
+goes_more layout grant P Q turn first more =
+    let then = more first.next first.there in
+    record {
+      next = then.next;
+      steps = first.steps + then.steps;
+      made = then.made ∙ ap (advanced_turns then.steps layout grant) first.made ∙ sym (advanced_turns-add layout grant first.steps then.steps turn);
       kept = then.kept ∙ ap (λ (seat : Seat). record seat { chain = then.next.seat.chain; acts = then.next.seat.acts; sampled = then.next.seat.sampled }) first.kept;
       there = then.there;
     }

@@ -17,7 +17,7 @@ never e = absurd (let q : false ≡ true = e in cc)
 abbrev pub Rests : LayoutShape → ℕ → Turn → Type 0
 Rests layout grant turn = advanced_turn layout grant turn ≡ turn
 
-joined : (grant : ℕ) (waiting : List ℕ) → is_among grant (with_waiting grant waiting) ≡ true
+pub joined : (grant : ℕ) (waiting : List ℕ) → is_among grant (with_waiting grant waiting) ≡ true
 joined grant waiting = by (is_among grant waiting) refl
   where
     last : (xs : List ℕ) → is_among grant (xs ++ grant ∷ []) ≡ true
@@ -43,7 +43,7 @@ may_with None (first ∷ rest) grant e = by (is_among grant (first ∷ rest))
     by false = e
 
 module _ (layout : LayoutShape) (grant : ℕ) where
-  as_is : (opens may : Bool) (turn : Turn) → opens_next turn.seat ≡ opens → may_open turn.holder turn.waiting grant ≡ may → advanced_turn layout grant turn ≡ advanced_as opens may layout grant turn
+  pub as_is : (opens may : Bool) (turn : Turn) → opens_next turn.seat ≡ opens → may_open turn.holder turn.waiting grant ≡ may → advanced_turn layout grant turn ≡ advanced_as opens may layout grant turn
   as_is opens may turn h k = rw (h, k) refl
 
   -- ---- the holder
@@ -77,7 +77,7 @@ module _ (layout : LayoutShape) (grant : ℕ) where
   again : (w : List ℕ) (joins more : ℕ) → is_among grant w ≡ true → cond (is_among grant w) joins more ≡ joins
   again w joins more e = rw e refl
 
-  waits_still : (turn : Turn) → opens_next turn.seat ≡ true → may_open turn.holder turn.waiting grant ≡ false → Rests layout grant (put_in_line grant turn)
+  pub waits_still : (turn : Turn) → opens_next turn.seat ≡ true → may_open turn.holder turn.waiting grant ≡ false → Rests layout grant (put_in_line grant turn)
   waits_still turn o m =
       let in_line = put_in_line grant turn in
       let there : is_among grant in_line.waiting ≡ true = joined grant turn.waiting in

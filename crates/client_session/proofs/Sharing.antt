@@ -93,7 +93,7 @@ module _ (layout : LayoutShape) (grant : ℕ) (parts : AllParts layout.parts) (i
     abbrev desk_held : ChainState → DeskView
     desk_held chain = record { holder = Some grant; waiting = without grant desk.waiting; scan = Some (record { grant = grant; codes = codes }); chain = chain }
 
-    opened_turn : opens_next seat ≡ true → may_open turn.holder turn.waiting grant ≡ true → advanced_turn layout grant turn ≡ captured layout grant (advanced seat) turn
+    pub opened_turn : opens_next seat ≡ true → may_open turn.holder turn.waiting grant ≡ true → advanced_turn layout grant turn ≡ captured layout grant (advanced seat) turn
     opened_turn opens may = rw (opens, may) refl
 
     module _ (tms tdi : Bool) (opens : opens_next seat ≡ true) (may : may_open turn.holder turn.waiting grant ≡ true) (rises : (advanced seat).chain ≡ rise seat.chain tms tdi)
@@ -145,7 +145,7 @@ module _ (layout : LayoutShape) (grant : ℕ) (parts : AllParts layout.parts) (i
     abbrev freed_turn : ℕ → Turn
     freed_turn cost = record { seat = advanced seat; holder = None; waiting = turn.waiting; joins = turn.joins; cost = turn.cost + cost }
 
-    closed_turn : opens_next seat ≡ false → seat.chain.scan_open ≡ true → (advanced seat).chain.scan_open ≡ false → advanced_turn layout grant turn ≡ freed_turn (freeing_cost seat.acts (scan_length_of layout grant seat))
+    pub closed_turn : opens_next seat ≡ false → seat.chain.scan_open ≡ true → (advanced seat).chain.scan_open ≡ false → advanced_turn layout grant turn ≡ freed_turn (freeing_cost seat.acts (scan_length_of layout grant seat))
     closed_turn opens is_open shut =
         let frees_now : frees turn.holder grant (advanced seat) ≡ true = λ i. (serves.holds ∙ is_open) i && not (shut i) in
         let as_is : advanced_turn layout grant turn ≡ stepped layout grant (advanced seat) turn = rw opens refl in

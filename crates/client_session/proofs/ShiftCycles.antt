@@ -22,11 +22,11 @@ use Rattle.client_session.specs.Stores.{HoldsShift}
 use Rattle.client_session.proofs.Quietly.{quiet_more, quiet_act, leads_more, no_rise_next, not_at_capture}
 
 -- the acts of the cycle at a place, and of those behind it
-acts_from : (tms tdi : List Bool) (at : ℕ) → at < length tms → at < length tdi
+pub acts_from : (tms tdi : List Bool) (at : ℕ) → at < length tms → at < length tdi
     → shift_acts (drop at tms) (drop at tdi) ≡ Sample ∷ Rise (bit_at tms at) (bit_at tdi at) ∷ Fall ∷ shift_acts (drop (suc at) tms) (drop (suc at) tdi)
 acts_from tms tdi at lt gt = λ i. shift_acts (drop-cons tms at false lt i) (drop-cons tdi at false gt i)
 
-drop-set : (bits : List Bool) (at : ℕ) (bit : Bool) → drop (suc at) (set bits at bit) ≡ drop (suc at) bits
+pub drop-set : (bits : List Bool) (at : ℕ) (bit : Bool) → drop (suc at) (set bits at bit) ≡ drop (suc at) bits
 drop-set [] at bit = refl
 drop-set (x ∷ bits) zero bit = refl
 drop-set (x ∷ bits) (suc at) bit = drop-set bits at bit

@@ -1,8 +1,8 @@
 -- A session on its way through its acts, beside the turn that it stands for.
-use Rattle.std.specs.Prelude.{ℕ, ◌-◌, ◌≡◌, ◌≢◌, ◌≤◌, ◌<◌, List, Bool, true, false, ◌∷◌, take, drop, slice_set}
+use Rattle.std.specs.Prelude.{ℕ, suc, ◌-◌, ◌≡◌, ◌≢◌, ◌≤◌, ◌<◌, List, Bool, true, false, [], ◌∷◌, ◌++◌, take, drop, slice_set}
 use Rattle.std.specs.declared.option.Option.TheVariants.{Some}
 use Rattle.tap_states.specs.declared.Tap.TheVariants.{UpdateDr}
-use Rattle.scan_bits.specs.Registers.{joined}
+use Rattle.scan_bits.specs.Registers.{bit_at, joined}
 use Rattle.chain_model.specs.Chains.{ChainState}
 use Rattle.chain_model.specs.Cycles.{fall, dr_stages}
 use Rattle.base_types.specs.Counts.{raised}
@@ -11,12 +11,12 @@ use Rattle.xvc_frame.specs.Frames.{FrameState, tms_bits, tdi_bits}
 use Rattle.virtual_tap.specs.Taps.{VTapState, ScansAt}
 use Rattle.virtual_tap.specs.Views.{TapView, StandsFor, at_capture, closed_view}
 use Rattle.client_session.specs.declared.shift.Pause.{Pause}
-use Rattle.client_session.specs.declared.shift.Pause.TheVariants.{Made, Capture, Update}
+use Rattle.client_session.specs.declared.shift.Pause.TheVariants as pauses
 use Rattle.client_session.specs.Acts.{shift_acts}
-use Rattle.client_session.specs.Acts.Act.{Fall}
+use Rattle.client_session.specs.Acts.Act.{Rise, Fall}
 use Rattle.client_session.specs.Seats.{Seat}
 use Rattle.client_session.specs.Sessions.{DeskView, Serves}
-use Rattle.client_session.specs.Turns.{LayoutShape, Turn, is_holder, advanced_turns}
+use Rattle.client_session.specs.Turns.{LayoutShape, Turn, is_among, is_holder, advanced_turn, advanced_turns}
 
 -- the view once an open scan is closed where its register is written back
 abbrev pub closed_if : Bool → TapView → TapView
@@ -86,15 +86,15 @@ pub record Leads (layout : LayoutShape) (grant : ℕ) (P : Turn → Type 0) (tur
 
 -- where a walk through the cycles of a `shift:` ended: all are made, or the next edge captures, or the last one ended the scan
 abbrev pub WalksTo : Pause → FrameState → VTapState → (cycles grant : ℕ) → Turn → Type 0
-WalksTo Made frame tap cycles grant turn = ShiftsAt frame tap cycles grant turn
-WalksTo (Capture at) frame tap cycles grant turn = ShiftsAt frame tap at grant turn
-WalksTo (Update at) frame tap cycles grant turn = ClosesAt frame tap at grant turn
+WalksTo pauses.Made frame tap cycles grant turn = ShiftsAt frame tap cycles grant turn
+WalksTo (pauses.Capture at) frame tap cycles grant turn = ShiftsAt frame tap at grant turn
+WalksTo (pauses.Update at) frame tap cycles grant turn = ClosesAt frame tap at grant turn
 
 -- with TCK low after it
-abbrev pub PausesWell : Pause → VTapState → (cycles : ℕ) → Type 0
-PausesWell Made tap cycles = ScansAt false tap.view
-PausesWell (Capture at) tap cycles = ScansAt false tap.view × (at_capture tap.view ≡ true) × (at < cycles)
-PausesWell (Update at) tap cycles = ScansAt false (closed_view tap.view) × (tap.view.scan_open ≡ true) × (at ≤ cycles)
+abbrev pub PausesWell : Pause → VTapState → (from cycles : ℕ) → Type 0
+PausesWell pauses.Made tap from cycles = ScansAt false tap.view
+PausesWell (pauses.Capture at) tap from cycles = ScansAt false tap.view × (at_capture tap.view ≡ true) × (from ≤ at) × (at < cycles)
+PausesWell (pauses.Update at) tap from cycles = ScansAt false (closed_view tap.view) × (tap.view.scan_open ≡ true) × (from < at) × (at ≤ cycles)
 
 -- ---- the shared chain
 
@@ -107,3 +107,22 @@ pub record Follows (layout : LayoutShape) (group : List ℕ) (grant : ℕ) (base
   pub untouched : (holder : ℕ) → base_desk.holder ≡ Some holder → holder ≢ grant → (desk.chain ≡ base_desk.chain) × (desk.scan ≡ base_desk.scan)
   pub due : base.cost ≤ turn.cost
   pub made : IsWithin desk.chain.made (raised base_desk.chain.made (turn.cost - base.cost))
+
+-- the session waits amid a `shift:`: TDO is sampled for the cycle at a place, and its rise may not come yet
+pub record WaitsAt (layout : LayoutShape) (frame : FrameState) (tap : VTapState) (at grant : ℕ) (turn : Turn) : Type 0 where
+  pub going : turn.seat.going ≡ true
+  pub rests : advanced_turn layout grant turn ≡ turn
+  pub waits : is_among grant turn.waiting ≡ true
+  pub holds : Holds grant turn
+  pub types : types_of turn.seat.chain ≡ tap.parts
+  pub acts : turn.seat.acts ≡ Rise (bit_at (tms_bits frame) at) (bit_at (tdi_bits frame) at) ∷ Fall ∷ shift_acts (drop (suc at) (tms_bits frame)) (drop (suc at) (tdi_bits frame))
+  pub sampled : turn.seat.sampled ≡ take at (tdi_bits frame) ++ tap.view.tdo ∷ []
+  pub stands : StandsFor tap.view turn.seat.chain
+
+-- steps of the grant lead from a turn to one of which this holds
+pub record GoesTo (layout : LayoutShape) (grant : ℕ) (P : Turn → Type 0) (turn : Turn) : Type 0 where
+  pub next : Turn
+  pub steps : ℕ
+  pub made : next ≡ advanced_turns steps layout grant turn
+  pub kept : KeepsBytes turn.seat next.seat
+  pub there : P next

@@ -9,3 +9,4 @@ pub mod Laws
 pub mod Places
 pub mod Stores
 pub mod Going
+pub mod Desks

@@ -7,11 +7,13 @@ ghost use Rattle.client_session.specs.Private.{Event, after_events};
 ghost use Rattle.client_session.specs.Private.Event.{Took};
 ghost use Rattle.client_session.specs.Laws.{NoneWaitsByItself, MessagesReplyShort, LettersReplyShort};
 
+mod desk;
 mod input;
 mod progress;
 mod session;
 mod shift;
 
+pub use desk::Desk;
 pub use session::Session;
 
 /// How a session ended. Bytes are counted from 0, from the first of the session.

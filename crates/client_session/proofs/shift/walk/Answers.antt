@@ -17,10 +17,13 @@ returns-then-ends-clause-went c = λ grant turn shifts.
 
 pub loop-at-preserved : goal.loop-at-preserved
 loop-at-preserved c = record {
+  behind = omega (arith, c.loop-at.invariant.behind);
   within = omega arith;
   vector = c.shift_cycle-ends.ensures.bit.vector ∙ c.loop-at.invariant.vector;
   held = subst (HoldsShift c.shift_cycle-ends.new.frame) c.loop-at.invariant.held.tdi c.shift_cycle-ends.ensures.held;
   kept = keeps_more c.args.tap.now c.loop-at.tap c.shift_cycle-ends.new.tap c.loop-at.invariant.kept c.shift_cycle-ends.ensures.kept;
+  scan = c.shift_cycle-ends.ensures.scan ∙ c.loop-at.invariant.scan;
+  codes = λ is_open. c.shift_cycle-ends.ensures.codes (c.loop-at.invariant.scan ∙ is_open) ∙ c.loop-at.invariant.codes is_open;
   low = subst (λ t. ScansAt false (closed_if t c.shift_cycle-ends.new.tap.view)) c.if-ends.false c.shift_cycle-ends.ensures.low;
   went = λ grant turn shifts.
       walked_on c.args.layout.now grant c.loop-at.frame c.shift_cycle-ends.new.frame c.loop-at.tap c.shift_cycle-ends.new.tap c.loop-at.at c.args.cycles turn

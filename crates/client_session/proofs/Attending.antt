@@ -1,0 +1,310 @@
+-- A session amid a `shift:` at the desk: where its scan is closed, where one is opened, and where it waits.
+use Rattle.std.proofs.Common.{◌≡◌, ◌<◌, ◌≤◌, ◌+◌, ◌-◌, ℕ, suc, Bool, true, false, not, ◌&&◌, List, [], ◌∷◌, ◌++◌, take, drop, length, refl, ap, sym, ◌∙◌, subst, arith, Some, None}
+use Rattle.std.specs.declared.option.Option.{Option}
+use Rattle.std.proofs.lemmas.Bool.{eq-eqb}
+use Rattle.std.proofs.Math.Seq.{take-suc-set}
+use Rattle.base_types.specs.Counts.{raised}
+use Rattle.tap_states.specs.States.{is_capture_dr, next as next_state}
+use Rattle.scan_bits.specs.Registers.{bit_at, joined}
+use Rattle.chain_model.specs.Chains.{ChainState}
+use Rattle.chain_model.specs.Cycles.{rise, fall, on_fall, updated, dr_stages}
+use Rattle.grant_table.specs.Layouts.{LayoutShape, group_of}
+use Rattle.grant_table.specs.Kept.{AllParts}
+use Rattle.chain_token.specs.Waiting.{may_open, with_waiting, without}
+use Rattle.scan_share.specs.PrivateChains.{entries_at, nets_within}
+use Rattle.scan_share.specs.Scans.{code_list, contents_of, types_of, with_contents, update_cost, IsWhole, IsOpenFor, Captures, Updates}
+use Rattle.scan_share.proofs.Facts.{IsGroup}
+use Rattle.scan_share.proofs.Kept.{entries_each, timed_rise, timed_shut}
+use Rattle.scan_share.proofs.MadeOf.{all_sound}
+use Rattle.virtual_tap.specs.Taps.{VTapState}
+use Rattle.virtual_tap.specs.Views.{StandsFor, at_capture, closed_view, opened_view}
+use Rattle.virtual_tap.proofs.CaptureEdge.{capture_edge}
+use Rattle.xvc_frame.specs.Frames.{FrameState, tms_bits, tdi_bits}
+use Rattle.client_session.specs.Acts.{Act, shift_acts}
+use Rattle.client_session.specs.Acts.Act.{Sample, Rise, Fall}
+use Rattle.client_session.specs.Seats.{Seat, advanced, opens_next, rises_next}
+use Rattle.client_session.specs.Turns.{Turn, is_holder, freeing_cost, scan_length_of, captured, put_in_line, advanced_turn, advanced_turns}
+use Rattle.client_session.specs.Paces.{IsSeatOver}
+use Rattle.client_session.specs.Sessions.{DeskView, Serves, KeepsChain}
+use Rattle.client_session.specs.Going.{Holds, Quiet, PutsBit, Follows, GoesTo, Leads, ShiftsAt, ClosesAt, WaitsAt}
+use Rattle.client_session.proofs.Kept.{turns_over}
+use Rattle.client_session.proofs.Answering.{one_act}
+use Rattle.client_session.proofs.Opening.{both, not_true, opens_opens}
+use Rattle.client_session.proofs.Resting.{as_is, waits_still, joined as joins}
+use Rattle.client_session.proofs.Quietly.{quiet_act, quiet_more, no_rise_next, advanced_turns-add}
+use Rattle.client_session.proofs.Untouched.{fall_contents, fall_codes, fall_types, rise_types}
+use Rattle.client_session.proofs.ShiftCycles.{acts_from, drop-set}
+use Rattle.client_session.proofs.Sharing.{closes_scan, closed_turn, opens_scan, opened_turn, captured_bits}
+
+never : {A : Type 0} → false ≡ true → A
+never e = absurd (let q : false ≡ true = e in cc)
+
+module _ (layout : LayoutShape) (grant : ℕ) (parts : AllParts layout.parts) (is : IsGroup (group_of layout.grants grant) (length layout.parts)) where
+  abbrev group : List ℕ
+  group = group_of layout.grants grant
+
+  -- ---- quiet steps
+
+  keeps_on : (holder : Option ℕ) (desk : DeskView) (turn next : Turn) → Quiet layout grant turn next → (holder ≡ Some grant → turn.seat.chain.scan_open ≡ true)
+      → KeepsChain layout group grant holder desk turn.seat → KeepsChain layout group grant holder desk next.seat
+  keeps_on None desk turn next quiet is_open keeps = keeps
+  keeps_on (Some holder) desk turn next quiet is_open keeps = λ mine.
+      let same = quiet.codes (is_open (ap Some mine)) in
+      record {
+        scan = (keeps mine).scan ∙ ap (λ cs. Some (record { grant = grant; codes = cs })) (sym same);
+        chain_open = subst (λ cs. IsOpenFor layout group cs desk.chain) (sym same) (keeps mine).chain_open;
+      }
+
+  held_open : (desk : DeskView) (turn : Turn) → Serves layout group grant desk turn → desk.holder ≡ Some grant → turn.seat.chain.scan_open ≡ true
+  held_open desk turn serves mine = sym serves.holds ∙ ap (λ h. is_holder h grant) (sym serves.holder ∙ mine) ∙ eq-eqb grant grant refl
+
+  pub follows_quiet : (base_desk desk : DeskView) (base turn next : Turn) → Quiet layout grant turn next → Follows layout group grant base_desk base desk turn → Follows layout group grant base_desk base desk next
+  follows_quiet base_desk desk base turn next quiet follows =
+      let serves = follows.serves in
+      let over = turns_over (entries_at layout.parts group) (nets_within group layout.nets) (entries_each _ layout.parts group (all_sound layout.parts parts)) quiet.steps layout grant turn.seat.protocol turn serves.over in
+      let over_next = subst (λ t. IsSeatOver turn.seat.protocol (entries_at layout.parts group) (nets_within group layout.nets) t.seat) (sym quiet.made) over in
+      record {
+        serves = record {
+          whole = serves.whole;
+          over = subst (λ p. IsSeatOver p (entries_at layout.parts group) (nets_within group layout.nets) next.seat) (sym over_next.protocol_is) over_next;
+          counted = serves.counted;
+          holder = serves.holder ∙ sym quiet.holder;
+          waiting = serves.waiting ∙ sym quiet.waiting;
+          holds = ap (λ h. is_holder h grant) quiet.holder ∙ serves.holds ∙ sym quiet.scan;
+          contents = serves.contents ∙ sym quiet.contents;
+          keeps = keeps_on desk.holder desk turn next quiet (held_open desk turn serves) serves.keeps;
+        };
+        others = follows.others ∙ ap (λ own. with_contents group own (contents_of base_desk.chain)) (sym quiet.contents);
+        held = follows.held;
+        untouched = follows.untouched;
+        due = omega (arith, follows.due, quiet.cost);
+        made = subst (λ cost. desk.chain.made ≤ raised base_desk.chain.made (cost - base.cost)) (sym quiet.cost) follows.made;
+      }
+
+  -- ---- the fall that ends a scan
+
+  module _ (base_desk desk : DeskView) (base start : Turn) (whole : IsWhole layout base_desk.chain) (follows : Follows layout group grant base_desk base desk start) where
+    module _ (frame : FrameState) (tap : VTapState) (at : ℕ) (leads : Leads layout grant (ClosesAt frame tap at grant) start) where
+      abbrev here : Turn
+      here = leads.next
+
+      abbrev left : List Act
+      left = shift_acts (drop at (tms_bits frame)) (drop at (tdi_bits frame))
+
+      -- the turn after the fall
+      abbrev shut_turn : Turn
+      shut_turn = record { seat = record here.seat { acts = left; chain = fall here.seat.chain }; holder = None; waiting = here.waiting; joins = here.joins; cost = here.cost + update_cost (scan_length_of layout grant here.seat) }
+
+      falls : advanced here.seat ≡ record here.seat { acts = left; chain = fall here.seat.chain }
+      falls = one_act Fall left here.seat leads.there.going leads.there.acts
+
+      no_opening : opens_next here.seat ≡ false
+      no_opening = no_rise_next here.seat (ap (λ acts. rises_next acts here.seat) leads.there.acts)
+
+      shut : (advanced here.seat).chain.scan_open ≡ false
+      shut = ap (λ (s : Seat). s.chain.scan_open) falls ∙ sym leads.there.closes.stands.scan
+
+      cost_is : freeing_cost here.seat.acts (scan_length_of layout grant here.seat) ≡ update_cost (scan_length_of layout grant here.seat)
+      cost_is = ap (λ acts. freeing_cost acts (scan_length_of layout grant here.seat)) leads.there.acts
+
+      follows_here : Follows layout group grant base_desk base desk here
+      follows_here = follows_quiet base_desk desk base start here leads.quiet follows
+
+      turn_is : advanced_turn layout grant here ≡ shut_turn
+      turn_is =
+          closed_turn layout grant parts is base_desk desk base here whole follows_here no_opening leads.there.closes.chain_open shut
+          ∙ (λ i. record { seat = falls i; holder = None; waiting = here.waiting; joins = here.joins; cost = here.cost + cost_is i })
+
+      updated_contents : contents_of (advanced here.seat).chain ≡ contents_of (updated here.seat.chain)
+      updated_contents = ap (λ (s : Seat). contents_of s.chain) falls ∙ ap (λ state. contents_of (on_fall state here.seat.chain)) leads.there.closes.state
+
+      pub update_on : (bits : List Bool) (chain : ChainState) → tap.view.register ≡ Some bits → Updates layout group tap.view.codes bits desk.chain chain
+          → GoesTo layout grant (λ turn. Follows layout group grant base_desk base (record { holder = None; waiting = desk.waiting; scan = None; chain = chain }) turn
+          × ShiftsAt frame (record tap { view = closed_view tap.view }) at grant turn) start
+      update_on bits chain register updates =
+          let bits_are : bits ≡ joined (dr_stages here.seat.chain.devices) = (let q : Some bits ≡ Some (joined (dr_stages here.seat.chain.devices)) = sym register ∙ leads.there.closes.register in cc) in
+          record {
+            next = shut_turn;
+            steps = leads.quiet.steps + 1;
+            made = sym turn_is ∙ ap (advanced_turn layout grant) leads.quiet.made ∙ sym (advanced_turns-add layout grant leads.quiet.steps 1 start);
+            kept = ap (λ (s : Seat). record s { chain = fall here.seat.chain; acts = left }) leads.kept;
+            there = (
+              subst (Follows layout group grant base_desk base (record { holder = None; waiting = desk.waiting; scan = None; chain = chain })) turn_is
+                  (closes_scan layout grant parts is base_desk desk base here whole follows_here no_opening leads.there.closes.chain_open shut cost_is updated_contents bits chain bits_are
+                  (subst (λ cs. Updates layout group cs bits desk.chain chain) leads.there.closes.codes updates)),
+              record {
+                going = leads.there.going;
+                holds = leads.there.closes.stands.scan;
+                types = fall_types here.seat.chain ∙ leads.there.types;
+                acts = refl;
+                sampled = leads.there.sampled;
+                stands = leads.there.closes.stands;
+              },
+            );
+          }
+
+    -- ---- the edge that leaves Capture-DR
+
+    module _ (frame : FrameState) (tap : VTapState) (at : ℕ) (leads : Leads layout grant (ShiftsAt frame tap at grant) start)
+        (capture : at_capture tap.view ≡ true) (in_tms : at < length (tms_bits frame)) (in_tdi : at < length (tdi_bits frame)) where
+      abbrev before : Turn
+      before = leads.next
+
+      abbrev tms : Bool
+      tms = bit_at (tms_bits frame) at
+
+      abbrev tdi : Bool
+      tdi = bit_at (tdi_bits frame) at
+
+      abbrev rest : List Act
+      rest = shift_acts (drop (suc at) (tms_bits frame)) (drop (suc at) (tdi_bits frame))
+
+      abbrev sampled_turn : Turn
+      sampled_turn = record before { seat = record before.seat { acts = Rise tms tdi ∷ Fall ∷ rest; sampled = before.seat.sampled ++ before.seat.chain.tdo ∷ [] } }
+
+      acts_are : before.seat.acts ≡ Sample ∷ Rise tms tdi ∷ Fall ∷ rest
+      acts_are = leads.there.acts ∙ acts_from (tms_bits frame) (tdi_bits frame) at in_tms in_tdi
+
+      to_sample : Quiet layout grant start sampled_turn
+      to_sample = quiet_more layout grant start before sampled_turn leads.quiet
+          (quiet_act layout grant Sample (Rise tms tdi ∷ Fall ∷ rest) before leads.there.going acts_are (no_rise_next before.seat (ap (λ acts. rises_next acts before.seat) acts_are)) leads.there.holds refl refl (λ h. refl))
+
+      sampled_are : before.seat.sampled ++ before.seat.chain.tdo ∷ [] ≡ take at (tdi_bits frame) ++ tap.view.tdo ∷ []
+      sampled_are = λ i. leads.there.sampled i ++ sym leads.there.stands.tdo i ∷ []
+
+      at_state : is_capture_dr before.seat.chain.state ≡ true
+      at_state = ap is_capture_dr (sym leads.there.stands.state) ∙ (both (is_capture_dr tap.view.state) (not tap.view.scan_open) capture).0
+
+      not_open : before.seat.chain.scan_open ≡ false
+      not_open = sym leads.there.stands.scan ∙ not_true tap.view.scan_open (both (is_capture_dr tap.view.state) (not tap.view.scan_open) capture).1
+
+      opens : opens_next sampled_turn.seat ≡ true
+      opens = λ i. leads.there.going i && (at_state i && (not (not_open i) && true))
+
+      follows_sample : Follows layout group grant base_desk base desk sampled_turn
+      follows_sample = follows_quiet base_desk desk base start sampled_turn to_sample follows
+
+      -- where the grant waits
+      pub wait_on : may_open desk.holder desk.waiting grant ≡ false
+          → GoesTo layout grant (λ turn. Follows layout group grant base_desk base (record desk { waiting = with_waiting grant desk.waiting }) turn × WaitsAt layout frame tap at grant turn) start
+      wait_on closed =
+          let serves = follows_sample.serves in
+          let may : may_open sampled_turn.holder sampled_turn.waiting grant ≡ false = (λ i. may_open (sym serves.holder i) (sym serves.waiting i) grant) ∙ closed in
+          let line : advanced_turn layout grant sampled_turn ≡ put_in_line grant sampled_turn = as_is layout grant true false sampled_turn opens may in
+          record {
+            next = put_in_line grant sampled_turn;
+            steps = to_sample.steps + 1;
+            made = sym line ∙ ap (advanced_turn layout grant) to_sample.made ∙ sym (advanced_turns-add layout grant to_sample.steps 1 start);
+            kept = ap (λ (s : Seat). record s { acts = Rise tms tdi ∷ Fall ∷ rest; sampled = before.seat.sampled ++ before.seat.chain.tdo ∷ [] }) leads.kept;
+            there = (
+              record {
+                serves = record {
+                  whole = serves.whole;
+                  over = serves.over;
+                  counted = serves.counted;
+                  holder = serves.holder;
+                  waiting = ap (with_waiting grant) serves.waiting;
+                  holds = serves.holds;
+                  contents = serves.contents;
+                  keeps = in_line desk.holder serves.keeps;
+                };
+                others = follows_sample.others;
+                held = follows_sample.held;
+                untouched = follows_sample.untouched;
+                due = follows_sample.due;
+                made = follows_sample.made;
+              },
+              record {
+                going = leads.there.going;
+                rests = waits_still layout grant sampled_turn opens may;
+                waits = joins grant before.waiting;
+                holds = leads.there.holds;
+                types = leads.there.types;
+                acts = refl;
+                sampled = sampled_are;
+                stands = leads.there.stands;
+              },
+            );
+          }
+        where
+          in_line : (holder : Option ℕ) → KeepsChain layout group grant holder desk sampled_turn.seat → KeepsChain layout group grant holder (record desk { waiting = with_waiting grant desk.waiting }) sampled_turn.seat
+          in_line None keeps = keeps
+          in_line (Some holder) keeps = λ mine. record { scan = (keeps mine).scan; chain_open = (keeps mine).chain_open }
+
+      -- where the chain is the grant's: its scan is opened, and the cycle goes on to its fall
+      module _ (open_to : may_open desk.holder desk.waiting grant ≡ true) (bits : List Bool) (chain : ChainState) (captures : Captures layout group tap.view.codes bits desk.chain chain)
+          (frame_new : FrameState) (tap_new : VTapState) (parts_kept : tap_new.parts ≡ tap.parts) (put : PutsBit at tap.view.tdo frame frame_new) (scan_new : tap_new.view.scan_open ≡ true)
+          (moved : (c : ChainState) → types_of c ≡ tap.parts → StandsFor (record (opened_view bits tap.view) { state = next_state tap.view.state tms }) c → StandsFor tap_new.view (fall c)) where
+        abbrev desk_held : DeskView
+        desk_held = record { holder = Some grant; waiting = without grant desk.waiting; scan = Some (record { grant = grant; codes = tap.view.codes }); chain = chain }
+
+        abbrev risen_turn : Turn
+        risen_turn = captured layout grant (record before.seat { acts = Fall ∷ rest; sampled = before.seat.sampled ++ before.seat.chain.tdo ∷ []; chain = rise before.seat.chain tms tdi }) sampled_turn
+
+        abbrev fallen_turn : Turn
+        fallen_turn = record risen_turn { seat = record risen_turn.seat { acts = rest; chain = fall (rise before.seat.chain tms tdi) } }
+
+        may : may_open sampled_turn.holder sampled_turn.waiting grant ≡ true
+        may = (λ i. may_open (sym follows_sample.serves.holder i) (sym follows_sample.serves.waiting i) grant) ∙ open_to
+
+        rises : advanced sampled_turn.seat ≡ risen_turn.seat
+        rises = one_act (Rise tms tdi) (Fall ∷ rest) sampled_turn.seat leads.there.going refl
+
+        codes_are : tap.view.codes ≡ code_list before.seat.chain
+        codes_are = leads.there.stands.codes
+
+        captures_here : Captures layout group (code_list sampled_turn.seat.chain) bits desk.chain chain
+        captures_here = subst (λ cs. Captures layout group cs bits desk.chain chain) codes_are captures
+
+        captured_is : advanced_turn layout grant sampled_turn ≡ risen_turn
+        captured_is =
+            opened_turn layout grant parts is base_desk desk base sampled_turn whole follows_sample opens may
+            ∙ ap (λ s. captured layout grant s sampled_turn) rises
+
+        follows_risen : Follows layout group grant base_desk base desk_held risen_turn
+        follows_risen =
+            subst (Follows layout group grant base_desk base desk_held) captured_is
+            (subst (λ cs. Follows layout group grant base_desk base (record { holder = Some grant; waiting = without grant desk.waiting; scan = Some (record { grant = grant; codes = cs }); chain = chain }) (advanced_turn layout grant sampled_turn)) (sym codes_are)
+            (opens_scan layout grant parts is base_desk desk base sampled_turn whole follows_sample tms tdi opens may (ap (λ (s : Seat). s.chain) rises) bits chain captures_here))
+
+        bits_are : bits ≡ joined (dr_stages (rise before.seat.chain tms tdi).devices)
+        bits_are = captured_bits layout grant parts is base_desk desk base sampled_turn whole follows_sample tms tdi opens may (ap (λ (s : Seat). s.chain) rises) bits chain captures_here
+
+        stands_then : StandsFor tap_new.view (fall (rise before.seat.chain tms tdi))
+        stands_then = moved (rise before.seat.chain tms tdi) (rise_types before.seat.chain tms tdi ∙ leads.there.types)
+            (subst (λ b. StandsFor (record (opened_view b tap.view) { state = next_state tap.view.state tms }) (rise before.seat.chain tms tdi)) (sym bits_are)
+            (capture_edge tap.view before.seat.chain tms tdi leads.there.stands at_state))
+
+        open_risen : (rise before.seat.chain tms tdi).scan_open ≡ true
+        open_risen = sym (ap (λ (s : Seat). s.chain.scan_open) rises) ∙ opens_opens sampled_turn.seat opens
+
+        same : (fall (rise before.seat.chain tms tdi)).scan_open ≡ (rise before.seat.chain tms tdi).scan_open
+        same = sym stands_then.scan ∙ scan_new ∙ sym open_risen
+
+        holds_risen : Holds grant risen_turn
+        holds_risen = eq-eqb grant grant refl ∙ sym open_risen
+
+        to_fall : Quiet layout grant risen_turn fallen_turn
+        to_fall = quiet_act layout grant Fall rest risen_turn leads.there.going refl (no_rise_next risen_turn.seat refl) holds_risen same
+            (fall_contents (rise before.seat.chain tms tdi) same)
+            (λ h. fall_codes true (rise before.seat.chain tms tdi) (timed_rise before.seat.chain tms tdi (timed_shut false before.seat.chain not_open)) h same)
+
+        pub capture_on : GoesTo layout grant (λ turn. Follows layout group grant base_desk base desk_held turn × ShiftsAt frame_new tap_new (suc at) grant turn) start
+        capture_on = record {
+          next = fallen_turn;
+          steps = to_sample.steps + 1 + to_fall.steps;
+          made = to_fall.made ∙ ap (advanced_turns to_fall.steps layout grant) (sym captured_is ∙ ap (advanced_turn layout grant) to_sample.made ∙ sym (advanced_turns-add layout grant to_sample.steps 1 start))
+              ∙ sym (advanced_turns-add layout grant (to_sample.steps + 1) to_fall.steps start);
+          kept = ap (λ (s : Seat). record s { acts = rest; sampled = before.seat.sampled ++ before.seat.chain.tdo ∷ []; chain = fall (rise before.seat.chain tms tdi) }) leads.kept;
+          there = (
+            follows_quiet base_desk desk_held base risen_turn fallen_turn to_fall follows_risen,
+            record {
+              going = leads.there.going;
+              holds = holds_risen ∙ sym same;
+              types = fall_types (rise before.seat.chain tms tdi) ∙ rise_types before.seat.chain tms tdi ∙ leads.there.types ∙ sym parts_kept;
+              acts = (λ i. shift_acts (drop (suc at) (sym put.tms i)) ((sym (drop-set (tdi_bits frame) at tap.view.tdo) ∙ ap (drop (suc at)) (sym put.tdi)) i));
+              sampled = sampled_are ∙ sym (take-suc-set (tdi_bits frame) at tap.view.tdo in_tdi) ∙ ap (take (suc at)) (sym put.tdi);
+              stands = stands_then;
+            },
+          );
+        }
