@@ -24,6 +24,7 @@ use Rattle.client_session.specs.Sessions.{DeskView, OpenScan}
 use Rattle.client_session.specs.Stores.{HoldsShift}
 use Rattle.client_session.specs.Going.{ClosesAt, Follows, GoesTo, Leads, PutsBit, ShiftsAt, WaitsAt}
 use Rattle.client_session.specs.Desks.{Attends, Closed, Entered, HoldsScan, IsDesk, IsSound, SideFits, Opened, desk_of, scan_on}
+use Rattle.client_session.proofs.Quietly.{goes_more}
 use Rattle.client_session.proofs.Attending.{follows_quiet, update_on, wait_on, capture_on}
 
 pub entered : {C : Type 0} (layout : LayoutShape) (grant at : ℕ) (waits : List ℕ) (frame frame_new : FrameState) (old mid new : VTapState) (tdo tms : Bool) (desk : Token (ParkedView C) (OpenView C)) (before after : Option ChainState)
@@ -42,7 +43,7 @@ entered layout grant at waits frame frame_new old mid new tdo tms desk before af
 }
 
 -- a desk that is shown so
-shown_as : {C : Type 0} (layout : LayoutShape) (desk : Token (ParkedView C) (OpenView C)) (chain : ChainState) (held : Option ℕ) (waits : List ℕ) (scan : Option OpenScan) → holder desk ≡ held → waiting desk ≡ waits → scan_on layout desk.side ≡ scan
+pub shown_as : {C : Type 0} (layout : LayoutShape) (desk : Token (ParkedView C) (OpenView C)) (chain : ChainState) (held : Option ℕ) (waits : List ℕ) (scan : Option OpenScan) → holder desk ≡ held → waiting desk ≡ waits → scan_on layout desk.side ≡ scan
     → record { holder = held; waiting = waits; scan = scan; chain = chain } ≡ desk_of layout desk chain
 shown_as layout desk chain held waits scan h w s = λ i. record { holder = sym h i; waiting = sym w i; scan = sym s i; chain = chain }
 
@@ -138,3 +139,10 @@ desk_on {C} layout grant old new desk next is scan codes side = record {
     by : (s : Side (ParkedView C) (OpenView C)) → is_holder (holder_of s) grant ≡ old.scan_open → SideFits layout grant old.codes s → SideFits layout grant new.codes s
     by (Free parked) holds fits = tt
     by (Held held holder) holds fits = λ mine. subst (λ cs. HoldsScan layout grant cs held) (sym (codes (sym holds ∙ eq-eqb holder grant mine))) (fits mine)
+
+-- legs in a row
+pub more_legs : {C : Type 0} (layout : LayoutShape) (grant : ℕ) (base_desk : DeskView) (base turn : Turn) (Q R : Turn → Type 0) (desk next : Token (ParkedView C) (OpenView C)) (now after : Option ChainState)
+    → GoesTo layout grant (Attends layout grant base_desk base Q desk now) turn
+    → ((here : Turn) → Attends layout grant base_desk base Q desk now here → GoesTo layout grant (Attends layout grant base_desk base R next after) here)
+    → GoesTo layout grant (Attends layout grant base_desk base R next after) turn
+more_legs layout grant base_desk base turn Q R desk next now after first more = goes_more layout grant (Attends layout grant base_desk base Q desk now) (Attends layout grant base_desk base R next after) turn first more

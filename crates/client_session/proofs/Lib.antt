@@ -23,3 +23,4 @@ pub mod Shared
 pub mod Sharing
 pub mod Attending
 pub mod Entering
+pub mod Closing

@@ -33,7 +33,7 @@ shifted_ir_codes tdi [] = refl
 shifted_ir_codes tdi (d ∷ ds) = ap (λ rest. d.code ∷ rest) (shifted_ir_codes (lowest_or tdi d.ir_stage) ds)
 
 -- an act on each device that leaves something of it
-each_kept : {X : Type 0} (of : DeviceState → X) (act : DeviceState → DeviceState) → ((d : DeviceState) → of (act d) ≡ of d) → (ds : List DeviceState) → each of (map act ds) ≡ each of ds
+pub each_kept : {X : Type 0} (of : DeviceState → X) (act : DeviceState → DeviceState) → ((d : DeviceState) → of (act d) ≡ of d) → (ds : List DeviceState) → each of (map act ds) ≡ each of ds
 each_kept of act kept [] = refl
 each_kept of act kept (d ∷ ds) = λ i. kept d i ∷ each_kept of act kept ds i
 

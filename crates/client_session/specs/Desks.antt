@@ -17,14 +17,14 @@ use Rattle.chain_token.specs.Tokens.{holder, waiting}
 use Rattle.grant_table.specs.Layouts.{LayoutShape, group_of}
 use Rattle.grant_table.specs.Kept.{AllParts}
 use Rattle.scan_share.specs.Laws.{IsGroup}
-use Rattle.scan_share.specs.Scans.{Captures, Updates, codes_during, types_of}
+use Rattle.scan_share.specs.Scans.{Abandons, Captures, Updates, codes_during, types_of}
 use Rattle.scan_share.specs.Views.{ParkedView, OpenView, BrokenView, codes_for, words_of}
 use Rattle.virtual_tap.specs.Taps.{VTapState}
 use Rattle.virtual_tap.specs.Views.{TapView, StandsFor, at_capture, opened_view, closed_view}
 use Rattle.client_session.specs.declared.shift.Leg.{Leg}
 use Rattle.client_session.specs.declared.shift.Leg.TheVariants.{Made, On, Waits}
-use Rattle.client_session.specs.Turns.{Turn, is_among, is_holder}
-use Rattle.client_session.specs.Going.{Follows, PutsBit, ShiftsAt, WaitsAt}
+use Rattle.client_session.specs.Turns.{Turn, advanced_turn, is_among, is_holder}
+use Rattle.client_session.specs.Going.{Follows, IsShut, PutsBit, ShiftsAt, WaitsAt}
 use Rattle.client_session.specs.Sessions.{DeskView, OpenScan}
 
 -- a layout as each is, and a grant of it
@@ -125,3 +125,24 @@ LegWithin (Waits at) tap from cycles = (at_capture tap.view ≡ true) × (at < c
 abbrev pub MayWait : Leg → ℕ → List ℕ → Type 0
 MayWait (Waits at) grant waits = is_among grant waits ≡ true
 MayWait _ grant waits = Unit {0}
+
+-- where a session stops amid a `shift:`: nowhere, all cycles being made; or before the rise of a cycle, where it waits
+abbrev pub StopsAt : Option ℕ → LayoutShape → FrameState → VTapState → (cycles grant : ℕ) → Turn → Type 0
+StopsAt None layout frame tap cycles grant turn = ShiftsAt frame tap cycles grant turn
+StopsAt (Some at) layout frame tap cycles grant turn = WaitsAt layout frame tap at grant turn
+
+abbrev pub StopsWell : Option ℕ → VTapState → (cycles grant : ℕ) → List ℕ → Type 0
+StopsWell None tap cycles grant waits = Unit {0}
+StopsWell (Some at) tap cycles grant waits = (at_capture tap.view ≡ true) × (at < cycles) × (is_among grant waits ≡ true)
+
+-- the desk, whose cable tells its chain, serves the turn after a step, and no scan of the grant is open
+abbrev pub StepsTo : {C : Type 0} → LayoutShape → ℕ → VTapState → DeskView → Turn → Token (ParkedView C) (OpenView C) → Option ChainState → Turn → Type 0
+StepsTo layout grant tap base_desk base desk told turn = Attends layout grant base_desk base (IsShut tap grant) desk told (advanced_turn layout grant turn)
+
+-- a reset of the shared chain ended the scan without an update, and the desk is free
+pub record AbandonsScan {C : Type 0} (layout : LayoutShape) (waits : List ℕ) (old new : VTapState) (desk : Token (ParkedView C) (OpenView C)) (before after : Option ChainState) : Type 0 where
+  pub tap : new ≡ record old { view = closed_view old.view }
+  pub abandoned : Both before after (Abandons layout)
+  pub free : holder desk ≡ None
+  pub scan : scan_on layout desk.side ≡ None
+  pub waits_are : waiting desk ≡ waits

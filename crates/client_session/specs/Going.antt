@@ -3,10 +3,10 @@ use Rattle.std.specs.Prelude.{ℕ, suc, ◌-◌, ◌≡◌, ◌≢◌, ◌≤◌
 use Rattle.std.specs.declared.option.Option.TheVariants.{Some}
 use Rattle.tap_states.specs.declared.Tap.TheVariants.{UpdateDr}
 use Rattle.scan_bits.specs.Registers.{bit_at, joined}
-use Rattle.chain_model.specs.Chains.{ChainState}
-use Rattle.chain_model.specs.Cycles.{fall, dr_stages}
+use Rattle.chain_model.specs.Chains.{ChainState, reset}
+use Rattle.chain_model.specs.Cycles.{fall, closed, dr_stages}
 use Rattle.base_types.specs.Counts.{raised}
-use Rattle.scan_share.specs.Scans.{code_list, contents_of, types_of, with_contents, IsWithin}
+use Rattle.scan_share.specs.Scans.{code_list, contents_of, types_of, update_cost, with_contents, IsWithin}
 use Rattle.xvc_frame.specs.Frames.{FrameState, tms_bits, tdi_bits}
 use Rattle.virtual_tap.specs.Taps.{VTapState, ScansAt}
 use Rattle.virtual_tap.specs.Views.{TapView, StandsFor, at_capture, closed_view}
@@ -14,9 +14,9 @@ use Rattle.client_session.specs.declared.shift.Pause.{Pause}
 use Rattle.client_session.specs.declared.shift.Pause.TheVariants as pauses
 use Rattle.client_session.specs.Acts.{shift_acts}
 use Rattle.client_session.specs.Acts.Act.{Rise, Fall}
-use Rattle.client_session.specs.Seats.{Seat}
+use Rattle.client_session.specs.Seats.{Seat, advanced, opens_next}
 use Rattle.client_session.specs.Sessions.{DeskView, Serves}
-use Rattle.client_session.specs.Turns.{LayoutShape, Turn, is_among, is_holder, advanced_turn, advanced_turns}
+use Rattle.client_session.specs.Turns.{LayoutShape, Turn, is_among, is_holder, freeing_cost, advanced_turn, advanced_turns}
 
 -- the view once an open scan is closed where its register is written back
 abbrev pub closed_if : Bool → TapView → TapView
@@ -126,3 +126,28 @@ pub record GoesTo (layout : LayoutShape) (grant : ℕ) (P : Turn → Type 0) (tu
   pub made : next ≡ advanced_turns steps layout grant turn
   pub kept : KeepsBytes turn.seat next.seat
   pub there : P next
+
+-- the next step of the turn ends the session, or else closes the chain as an end does: an open scan is updated, and the chain is reset
+pub record EndsNext (tap : VTapState) (grant : ℕ) (turn : Turn) : Type 0 where
+  pub holds : Holds grant turn
+  pub types : types_of turn.seat.chain ≡ tap.parts
+  pub stands : StandsFor tap.view turn.seat.chain
+  pub opens : opens_next turn.seat ≡ false
+  pub closes : (advanced turn.seat).chain ≡ closed turn.seat.chain
+  pub cost : (width : ℕ) → freeing_cost turn.seat.acts width ≡ update_cost width
+
+-- the next step of the turn resets the chain by TRST
+pub record ResetsNext (tap : VTapState) (grant : ℕ) (turn : Turn) : Type 0 where
+  pub holds : Holds grant turn
+  pub types : types_of turn.seat.chain ≡ tap.parts
+  pub stands : StandsFor tap.view turn.seat.chain
+  pub opens : opens_next turn.seat ≡ false
+  pub resets : (advanced turn.seat).chain ≡ reset turn.seat.chain
+  pub cost : (width : ℕ) → freeing_cost turn.seat.acts width ≡ 1
+
+-- the virtual TAP stands for the chain of a seat that has no scan open
+pub record IsShut (tap : VTapState) (grant : ℕ) (turn : Turn) : Type 0 where
+  pub holds : Holds grant turn
+  pub types : types_of turn.seat.chain ≡ tap.parts
+  pub stands : StandsFor tap.view turn.seat.chain
+  pub shut : turn.seat.chain.scan_open ≡ false

@@ -1,12 +1,16 @@
 // What a session does at the desk with the shared chain.
-ghost use Rattle.std.specs.Prelude.{◌≡◌, ◌<◌, IfOk, Some, true, length, is_some};
+ghost use Rattle.std.specs.Prelude.{◌≡◌, ◌<◌, IfOk, Some, true, false, length, is_some};
 ghost use Rattle.base_types.specs.Counts.{HasCause};
 ghost use Rattle.base_types.specs.Tellings.{Told};
+ghost use Rattle.tap_states.specs.declared.Tap.TheVariants.{TestLogicReset};
 ghost use Rattle.scan_share.specs.Scans.{IsWhole};
 ghost use Rattle.chain_token.specs.Tokens.{holder, waiting};
 ghost use Rattle.virtual_tap.specs.Taps.{IsOfLayout};
 ghost use Rattle.virtual_tap.specs.Views.{at_capture};
-ghost use Rattle.client_session.specs.Desks.{Closed, IsDesk, IsSound, Opened, cable_after, cable_of};
+ghost use Rattle.client_session.specs.Turns.{Turn};
+ghost use Rattle.client_session.specs.Sessions.{DeskView};
+ghost use Rattle.client_session.specs.Going.{EndsNext, ResetsNext};
+ghost use Rattle.client_session.specs.Desks.{AbandonsScan, Attends, Closed, IsDesk, IsSound, Opened, StepsTo, cable_after, cable_of};
 
 use chain_model::Cable;
 use chain_token::{Queue, Token};
@@ -86,4 +90,109 @@ pub fn update<C: Cable>(
         }
         Err(broken) => Err(broken),
     }
+}
+
+/// Closes a grant's chain as the end of a session does: an open scan is updated, and the chain of the virtual TAP is reset.
+///
+/// `Broken` comes only where the cable's count of faults rose in the call.
+pub fn close<C: Cable>(
+    tap: &mut VTap,
+    grant: usize,
+    desk: Desk<C>,
+    layout: &Layout,
+) -> Result<Desk<C>, Broken<C>>
+    requires layout { IsOfLayout layout.now tap.old }
+    requires grant { tap.old.grant ≡ grant }
+    requires sound { IsSound layout.now grant }
+    requires there { is_some tap.old.view.register ≡ true }
+    requires desk { IsDesk layout.now grant tap.old.view desk }
+    requires whole { Told (C.chain (cable_of desk.side)) (IsWhole layout.now) }
+    ensures went { IfOk result (λ next. (base_desk : DeskView) (base turn : Turn) → IsWhole layout.now base_desk.chain
+        → Attends layout.now grant base_desk base (EndsNext tap.old grant) desk (C.chain (cable_of desk.side)) turn
+        → StepsTo layout.now grant tap.new base_desk base next (C.chain (cable_of next.side)) turn) }
+    ensures shut { IfOk result (λ next. tap.new.view.scan_open ≡ false) }
+    ensures state { IfOk result (λ next. tap.new.view.state ≡ TestLogicReset) }
+    ensures there { IfOk result (λ next. is_some tap.new.view.register ≡ true) }
+    ensures desk { IfOk result (IsDesk layout.now grant tap.new.view) }
+    ensures whole { IfOk result (λ next. Told (C.chain (cable_of next.side)) (IsWhole layout.now)) }
+    ensures waits { IfOk result (λ next. waiting next ≡ waiting desk) }
+    ensures same { (tap.new.grant ≡ tap.old.grant) × (tap.new.parts ≡ tap.old.parts) }
+    ensures mark { C.mark (cable_after result) ≡ C.mark (cable_of desk.side) }
+    ensures trst { C.trst (cable_after result) ≡ C.trst (cable_of desk.side) }
+    ensures cause { HasCause (C.fault_count (cable_of desk.side)) (C.fault_count (cable_after result)) result }
+{
+    if !tap.scan_open() {
+        tap.restart(layout);
+        return Ok(desk);
+    }
+    let next = update(tap, grant, desk, layout)?;
+    tap.restart(layout);
+    Ok(next)
+}
+
+// Ends the scan that is open by a reset of the shared chain: nothing is updated.
+fn abandon<C: Cable>(
+    tap: &mut VTap,
+    grant: usize,
+    desk: Desk<C>,
+    layout: &Layout,
+) -> Result<Desk<C>, Broken<C>>
+    requires scan { tap.old.view.scan_open ≡ true }
+    requires desk { IsDesk layout.now grant tap.old.view desk }
+    requires whole { Told (C.chain (cable_of desk.side)) (IsWhole layout.now) }
+    requires trst { C.trst (cable_of desk.side) ≡ true }
+    ensures abandoned { IfOk result (λ next. AbandonsScan layout.now (waiting desk) tap.old tap.new next (C.chain (cable_of desk.side)) (C.chain (cable_of next.side))) }
+    ensures desk { IfOk result (IsDesk layout.now grant tap.new.view) }
+    ensures whole { IfOk result (λ next. Told (C.chain (cable_of next.side)) (IsWhole layout.now)) }
+    ensures same { (tap.new.grant ≡ tap.old.grant) × (tap.new.parts ≡ tap.old.parts) }
+    ensures mark { C.mark (cable_after result) ≡ C.mark (cable_of desk.side) }
+    ensures trst { C.trst (cable_after result) ≡ C.trst (cable_of desk.side) }
+    ensures cause { HasCause (C.fault_count (cable_of desk.side)) (C.fault_count (cable_after result)) result }
+{
+    let (held, queue) = desk.release();
+    match held.abandon(layout) {
+        Ok(parked) => {
+            tap.close_scan();
+            Ok(Token::free(parked, queue))
+        }
+        Err(broken) => Err(broken),
+    }
+}
+
+/// Resets a grant's chain as TRST does: an open scan is ended without an update.
+///
+/// `Broken` comes only where the cable's count of faults rose in the call.
+pub fn reset<C: Cable>(
+    tap: &mut VTap,
+    grant: usize,
+    desk: Desk<C>,
+    layout: &Layout,
+) -> Result<Desk<C>, Broken<C>>
+    requires layout { IsOfLayout layout.now tap.old }
+    requires sound { IsSound layout.now grant }
+    requires there { is_some tap.old.view.register ≡ true }
+    requires desk { IsDesk layout.now grant tap.old.view desk }
+    requires whole { Told (C.chain (cable_of desk.side)) (IsWhole layout.now) }
+    requires trst { C.trst (cable_of desk.side) ≡ true }
+    ensures went { IfOk result (λ next. (base_desk : DeskView) (base turn : Turn) → IsWhole layout.now base_desk.chain
+        → Attends layout.now grant base_desk base (ResetsNext tap.old grant) desk (C.chain (cable_of desk.side)) turn
+        → StepsTo layout.now grant tap.new base_desk base next (C.chain (cable_of next.side)) turn) }
+    ensures shut { IfOk result (λ next. tap.new.view.scan_open ≡ false) }
+    ensures state { IfOk result (λ next. tap.new.view.state ≡ TestLogicReset) }
+    ensures there { IfOk result (λ next. is_some tap.new.view.register ≡ true) }
+    ensures desk { IfOk result (IsDesk layout.now grant tap.new.view) }
+    ensures whole { IfOk result (λ next. Told (C.chain (cable_of next.side)) (IsWhole layout.now)) }
+    ensures waits { IfOk result (λ next. waiting next ≡ waiting desk) }
+    ensures same { (tap.new.grant ≡ tap.old.grant) × (tap.new.parts ≡ tap.old.parts) }
+    ensures mark { C.mark (cable_after result) ≡ C.mark (cable_of desk.side) }
+    ensures trst { C.trst (cable_after result) ≡ C.trst (cable_of desk.side) }
+    ensures cause { HasCause (C.fault_count (cable_of desk.side)) (C.fault_count (cable_after result)) result }
+{
+    if !tap.scan_open() {
+        tap.restart(layout);
+        return Ok(desk);
+    }
+    let next = abandon(tap, grant, desk, layout)?;
+    tap.restart(layout);
+    Ok(next)
 }

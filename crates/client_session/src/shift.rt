@@ -14,7 +14,7 @@ ghost use Rattle.virtual_tap.specs.Views.{MovesAs, StandsFor, at_capture};
 ghost use Rattle.client_session.specs.Turns.{Turn};
 ghost use Rattle.client_session.specs.Sessions.{DeskView};
 ghost use Rattle.client_session.specs.Stores.{HoldsShift};
-ghost use Rattle.client_session.specs.Desks.{Attends, Entered, IsDesk, IsSound, LegTo, LegWithin, MayWait, cable_after, cable_of, cable_then};
+ghost use Rattle.client_session.specs.Desks.{Attends, Entered, IsDesk, IsSound, LegTo, LegWithin, MayWait, StopsAt, StopsWell, cable_after, cable_of, cable_then};
 ghost use Rattle.client_session.specs.Going.{GoesTo, IsToClose, Leads, PausesWell, PutsBit, ShiftsAt, WalksTo, closed_if};
 
 use crate::desk::{Desk, capture, update};
@@ -230,5 +230,55 @@ pub fn next_leg<C: Cable>(
                 Ok((Leg::On(at + 1), desk))
             }
         },
+    }
+}
+
+/// Goes on through a `shift:` from a cycle on. The answer is None where all cycles are made, and else the cycle before whose rise the session
+/// waits.
+///
+/// `Broken` comes only where the cable's count of faults rose in the call.
+pub fn shift_on<C: Cable>(
+    frame: &mut XvcFrame,
+    tap: &mut VTap,
+    grant: usize,
+    desk: Desk<C>,
+    layout: &Layout,
+    cycles: u32,
+    from: u32,
+) -> Result<(Option<u32>, Desk<C>), Broken<C>>
+    requires layout { IsOfLayout layout.now tap.old }
+    requires grant { tap.old.grant ≡ grant }
+    requires sound { IsSound layout.now grant }
+    requires low { ScansAt false tap.old.view }
+    requires there { is_some tap.old.view.register ≡ true }
+    requires held { HoldsShift frame.old cycles }
+    requires within { from ≤ cycles }
+    requires desk { IsDesk layout.now grant tap.old.view desk }
+    requires whole { Told (C.chain (cable_of desk.side)) (IsWhole layout.now) }
+    ensures went { IfOk result (λ pair. (base_desk : DeskView) (base turn : Turn) → IsWhole layout.now base_desk.chain
+        → Attends layout.now grant base_desk base (ShiftsAt frame.old tap.old from grant) desk (C.chain (cable_of desk.side)) turn
+        → GoesTo layout.now grant (Attends layout.now grant base_desk base (StopsAt pair.0 layout.now frame.new tap.new cycles grant) pair.1 (C.chain (cable_of pair.1.side))) turn) }
+    ensures stops { IfOk result (λ pair. StopsWell pair.0 tap.new cycles grant (waiting pair.1)) }
+    ensures there { IfOk result (λ pair. is_some tap.new.view.register ≡ true) }
+    ensures low { IfOk result (λ pair. ScansAt false tap.new.view) }
+    ensures desk { IfOk result (λ pair. IsDesk layout.now grant tap.new.view pair.1) }
+    ensures whole { IfOk result (λ pair. Told (C.chain (cable_of pair.1.side)) (IsWhole layout.now)) }
+    ensures vector { frame.new.vector ≡ frame.old.vector }
+    ensures held { HoldsShift frame.new cycles }
+    ensures same { (tap.new.grant ≡ tap.old.grant) × (tap.new.parts ≡ tap.old.parts) }
+    ensures mark { C.mark (cable_then result) ≡ C.mark (cable_of desk.side) }
+    ensures trst { C.trst (cable_then result) ≡ C.trst (cable_of desk.side) }
+    ensures cause { HasCause (C.fault_count (cable_of desk.side)) (C.fault_count (cable_then result)) result }
+{
+    let mut desk = desk;
+    let mut at = from;
+    loop {
+        let (leg, next) = next_leg(frame, tap, grant, desk, layout, cycles, at)?;
+        desk = next;
+        match leg {
+            Leg::Made => return Ok((None, desk)),
+            Leg::Waits(cycle) => return Ok((Some(cycle), desk)),
+            Leg::On(cycle) => at = cycle,
+        }
     }
 }
