@@ -98,10 +98,7 @@ impl AccessReading {
     fn number(&mut self, stage: AccessStage) -> Result<(), ContentFault>
         ensures { c.Steps (a.view self.new) result (a.with_number (a.view self.old) stage) }
     {
-        let value = match whole_number(&self.number) {
-            Ok(value) => value,
-            Err(fault) => return Err(fault),
-        };
+        let value = whole_number(&self.number)?;
         self.stage = stage;
         self.length = Some(value);
         self.number.clear();
@@ -236,10 +233,7 @@ impl AccessReading {
         ensures { c.Steps (a.view self.new) result (c.through a.next_byte (a.view self.old) bytes.now) }
     {
         for byte in bytes {
-            match self.register_byte(alloc, *byte) {
-                Ok(()) => {}
-                Err(fault) => return Err(fault),
-            }
+            self.register_byte(alloc, *byte)?;
         }
         Ok(())
     }
@@ -250,10 +244,7 @@ impl AccessReading {
         ensures { c.Steps (a.view self.new) result (c.through_all a.next_byte text.now (a.view self.old) tokens.now) }
     {
         for token in tokens {
-            match self.bytes(alloc, inside(text, *token)) {
-                Ok(()) => {}
-                Err(fault) => return Err(fault),
-            }
+            self.bytes(alloc, inside(text, *token))?;
         }
         Ok(())
     }
@@ -292,9 +283,6 @@ pub fn accesses(alloc: Global, text: &[u8], tokens: &[Token]) -> Result<Vec<Acce
         name: String::new(alloc),
         instructions: Vec::new(alloc),
     };
-    match reading.tokens(alloc, text, tokens) {
-        Ok(()) => {}
-        Err(fault) => return Err(fault),
-    }
+    reading.tokens(alloc, text, tokens)?;
     reading.closed()
 }

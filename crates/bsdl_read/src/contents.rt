@@ -1,6 +1,7 @@
 // What stands between the quotes of a VALUE, and numbers.
-ghost use Rattle.std.specs.Prelude.{ℕ, Bool, ◌≡◌, ◌<◌, ◌≤◌, ◌-◌, ◌++◌, ◌∷◌, ◌^◌, [], true, length, map, reverse, string_bytes, if◌then◌else◌, OnOk, IfOk, IfSome};
+ghost use Rattle.std.specs.Prelude.{ℕ, Bool, ◌≡◌, ◌==◌, ◌<◌, ◌≤◌, ◌-◌, ◌++◌, ◌∷◌, ◌^◌, [], true, false, length, map, reverse, string_bytes, if◌then◌else◌, OnOk, IfOk, IfSome};
 ghost use Rattle.std.specs.List.{list_all};
+ghost use Rattle.std.specs.Option.{is_some};
 ghost use Rattle.bsdl_lex.specs.Tokens as t;
 ghost use Rattle.bsdl_read.specs.Words as w;
 ghost use Rattle.bsdl_read.specs.Contents as c;
@@ -81,6 +82,7 @@ pub fn split_run<F: Fn(u8) -> bool>(bytes: &[u8], passes: F) -> (&[u8], &[u8])
     requires { F.IsAlwaysCallable passes }
     ensures whole { bytes.now ≡ result.0.now ++ result.1.now }
     ensures front { (test : ℕ → Bool) → c.Tests (F.post passes) test → list_all test result.0.now ≡ true }
+    ensures behind { (test : ℕ → Bool) → c.Tests (F.post passes) test → t.starts test result.1.now ≡ false }
 {
     let mut count = 0;
     while count < bytes.len() && passes(bytes[count]) {
@@ -91,7 +93,8 @@ pub fn split_run<F: Fn(u8) -> bool>(bytes: &[u8], passes: F) -> (&[u8], &[u8])
 
 // The bytes behind a sign, where it stands at the front.
 pub fn behind_sign(bytes: &[u8], sign: u8) -> Option<&[u8]>
-    ensures { IfSome result (λ behind. bytes.now ≡ sign ∷ behind.now) }
+    ensures behind { IfSome result (λ behind. bytes.now ≡ sign ∷ behind.now) }
+    ensures there { is_some result ≡ t.starts (λ byte. byte == sign) bytes.now }
 {
     match bytes.split_first() {
         Some((byte, behind)) if *byte == sign => Some(behind),

@@ -76,10 +76,7 @@ impl PatternReading {
         ensures { c.Steps (p.view self.new) result (c.through p.next_byte (p.view self.old) bytes.now) }
     {
         for byte in bytes {
-            match self.byte(*byte) {
-                Ok(()) => {}
-                Err(fault) => return Err(fault),
-            }
+            self.byte(*byte)?;
         }
         Ok(())
     }
@@ -90,10 +87,7 @@ impl PatternReading {
         ensures { c.Steps (p.view self.new) result (c.through_all p.next_byte text.now (p.view self.old) tokens.now) }
     {
         for token in tokens {
-            match self.bytes(inside(text, *token)) {
-                Ok(()) => {}
-                Err(fault) => return Err(fault),
-            }
+            self.bytes(inside(text, *token))?;
         }
         Ok(())
     }
@@ -114,10 +108,7 @@ pub fn pattern(
         stage: PatternStage::First,
         digits: Vec::new(alloc),
     };
-    match reading.tokens(text, tokens) {
-        Ok(()) => {}
-        Err(fault) => return Err(fault),
-    }
+    reading.tokens(text, tokens)?;
     if !reading.is_closed() {
         return Err(ContentFault::Departs(8));
     }
