@@ -26,7 +26,7 @@ use Rattle.client_session.specs.Seats.{Seat, advanced, opens_next, rises_next}
 use Rattle.client_session.specs.Turns.{Turn, is_holder, freeing_cost, scan_length_of, captured, put_in_line, advanced_turn, advanced_turns}
 use Rattle.client_session.specs.Paces.{IsSeatOver}
 use Rattle.client_session.specs.Sessions.{DeskView, Serves, KeepsChain}
-use Rattle.client_session.specs.Going.{Holds, Quiet, PutsBit, Follows, GoesTo, Leads, ShiftsAt, ClosesAt, WaitsAt}
+use Rattle.client_session.specs.Going.{Holds, Quiet, PutsBit, Follows, GoesTo, Leads, SampledAt, ShiftsAt, ClosesAt, WaitsAt}
 use Rattle.client_session.proofs.Kept.{turns_over}
 use Rattle.client_session.proofs.Answering.{one_act}
 use Rattle.client_session.proofs.Opening.{both, not_true, opens_opens}
@@ -143,6 +143,105 @@ module _ (layout : LayoutShape) (grant : ℕ) (parts : AllParts layout.parts) (i
             );
           }
 
+    -- ---- the rise that leaves Capture-DR, with TDO sampled for its cycle
+
+    module _ (frame : FrameState) (tap : VTapState) (at : ℕ) (here : Turn) (follows_here : Follows layout group grant base_desk base desk here) (amid : SampledAt frame tap at grant here)
+        (capture : at_capture tap.view ≡ true) where
+      abbrev rise_tms : Bool
+      rise_tms = bit_at (tms_bits frame) at
+
+      abbrev rise_tdi : Bool
+      rise_tdi = bit_at (tdi_bits frame) at
+
+      abbrev behind : List Act
+      behind = shift_acts (drop (suc at) (tms_bits frame)) (drop (suc at) (tdi_bits frame))
+
+      here_state : is_capture_dr here.seat.chain.state ≡ true
+      here_state = ap is_capture_dr (sym amid.stands.state) ∙ (both (is_capture_dr tap.view.state) (not tap.view.scan_open) capture).0
+
+      here_shut : here.seat.chain.scan_open ≡ false
+      here_shut = sym amid.stands.scan ∙ not_true tap.view.scan_open (both (is_capture_dr tap.view.state) (not tap.view.scan_open) capture).1
+
+      here_opens : opens_next here.seat ≡ true
+      here_opens = λ i. amid.going i && (here_state i && (not (here_shut i) && rises_next (amid.acts i) here.seat))
+
+      -- the chain is the grant's: its scan is opened, and the cycle goes on to its fall
+      module _ (open_to : may_open desk.holder desk.waiting grant ≡ true) (bits : List Bool) (chain : ChainState) (captures : Captures layout group tap.view.codes bits desk.chain chain)
+          (frame_new : FrameState) (tap_new : VTapState) (in_tdi : at < length (tdi_bits frame)) (parts_kept : tap_new.parts ≡ tap.parts) (put : PutsBit at tap.view.tdo frame frame_new) (scan_new : tap_new.view.scan_open ≡ true)
+          (moved : (c : ChainState) → types_of c ≡ tap.parts → StandsFor (record (opened_view bits tap.view) { state = next_state tap.view.state rise_tms }) c → StandsFor tap_new.view (fall c)) where
+        abbrev desk_held : DeskView
+        desk_held = record { holder = Some grant; waiting = without grant desk.waiting; scan = Some (record { grant = grant; codes = tap.view.codes }); chain = chain }
+
+        abbrev risen_turn : Turn
+        risen_turn = captured layout grant (record here.seat { acts = Fall ∷ behind; chain = rise here.seat.chain rise_tms rise_tdi }) here
+
+        abbrev fallen_turn : Turn
+        fallen_turn = record risen_turn { seat = record risen_turn.seat { acts = behind; chain = fall (rise here.seat.chain rise_tms rise_tdi) } }
+
+        may : may_open here.holder here.waiting grant ≡ true
+        may = (λ i. may_open (sym follows_here.serves.holder i) (sym follows_here.serves.waiting i) grant) ∙ open_to
+
+        rises : advanced here.seat ≡ risen_turn.seat
+        rises = one_act (Rise rise_tms rise_tdi) (Fall ∷ behind) here.seat amid.going amid.acts
+
+        codes_are : tap.view.codes ≡ code_list here.seat.chain
+        codes_are = amid.stands.codes
+
+        captures_here : Captures layout group (code_list here.seat.chain) bits desk.chain chain
+        captures_here = subst (λ cs. Captures layout group cs bits desk.chain chain) codes_are captures
+
+        captured_is : advanced_turn layout grant here ≡ risen_turn
+        captured_is =
+            opened_turn layout grant parts is base_desk desk base here whole follows_here here_opens may
+            ∙ ap (λ s. captured layout grant s here) rises
+
+        follows_risen : Follows layout group grant base_desk base desk_held risen_turn
+        follows_risen =
+            subst (Follows layout group grant base_desk base desk_held) captured_is
+            (subst (λ cs. Follows layout group grant base_desk base (record { holder = Some grant; waiting = without grant desk.waiting; scan = Some (record { grant = grant; codes = cs }); chain = chain }) (advanced_turn layout grant here)) (sym codes_are)
+            (opens_scan layout grant parts is base_desk desk base here whole follows_here rise_tms rise_tdi here_opens may (ap (λ (s : Seat). s.chain) rises) bits chain captures_here))
+
+        bits_are : bits ≡ joined (dr_stages (rise here.seat.chain rise_tms rise_tdi).devices)
+        bits_are = captured_bits layout grant parts is base_desk desk base here whole follows_here rise_tms rise_tdi here_opens may (ap (λ (s : Seat). s.chain) rises) bits chain captures_here
+
+        stands_then : StandsFor tap_new.view (fall (rise here.seat.chain rise_tms rise_tdi))
+        stands_then = moved (rise here.seat.chain rise_tms rise_tdi) (rise_types here.seat.chain rise_tms rise_tdi ∙ amid.types)
+            (subst (λ b. StandsFor (record (opened_view b tap.view) { state = next_state tap.view.state rise_tms }) (rise here.seat.chain rise_tms rise_tdi)) (sym bits_are)
+            (capture_edge tap.view here.seat.chain rise_tms rise_tdi amid.stands here_state))
+
+        open_risen : (rise here.seat.chain rise_tms rise_tdi).scan_open ≡ true
+        open_risen = sym (ap (λ (s : Seat). s.chain.scan_open) rises) ∙ opens_opens here.seat here_opens
+
+        same : (fall (rise here.seat.chain rise_tms rise_tdi)).scan_open ≡ (rise here.seat.chain rise_tms rise_tdi).scan_open
+        same = sym stands_then.scan ∙ scan_new ∙ sym open_risen
+
+        holds_risen : Holds grant risen_turn
+        holds_risen = eq-eqb grant grant refl ∙ sym open_risen
+
+        to_fall : Quiet layout grant risen_turn fallen_turn
+        to_fall = quiet_act layout grant Fall behind risen_turn amid.going refl (no_rise_next risen_turn.seat refl) holds_risen same
+            (fall_contents (rise here.seat.chain rise_tms rise_tdi) same)
+            (λ h. fall_codes true (rise here.seat.chain rise_tms rise_tdi) (timed_rise here.seat.chain rise_tms rise_tdi (timed_shut false here.seat.chain here_shut)) h same)
+
+        pub capture_from : GoesTo layout grant (λ turn. Follows layout group grant base_desk base desk_held turn × ShiftsAt frame_new tap_new (suc at) grant turn) here
+        capture_from = record {
+          next = fallen_turn;
+          steps = 1 + to_fall.steps;
+          made = to_fall.made ∙ ap (advanced_turns to_fall.steps layout grant) (sym captured_is) ∙ sym (advanced_turns-add layout grant 1 to_fall.steps here);
+          kept = refl;
+          there = (
+            follows_quiet base_desk desk_held base risen_turn fallen_turn to_fall follows_risen,
+            record {
+              going = amid.going;
+              holds = holds_risen ∙ sym same;
+              types = fall_types (rise here.seat.chain rise_tms rise_tdi) ∙ rise_types here.seat.chain rise_tms rise_tdi ∙ amid.types ∙ sym parts_kept;
+              acts = (λ i. shift_acts (drop (suc at) (sym put.tms i)) ((sym (drop-set (tdi_bits frame) at tap.view.tdo) ∙ ap (drop (suc at)) (sym put.tdi)) i));
+              sampled = amid.sampled ∙ sym (take-suc-set (tdi_bits frame) at tap.view.tdo in_tdi) ∙ ap (take (suc at)) (sym put.tdi);
+              stands = stands_then;
+            },
+          );
+        }
+
     -- ---- the edge that leaves Capture-DR
 
     module _ (frame : FrameState) (tap : VTapState) (at : ℕ) (leads : Leads layout grant (ShiftsAt frame tap at grant) start)
@@ -172,17 +271,14 @@ module _ (layout : LayoutShape) (grant : ℕ) (parts : AllParts layout.parts) (i
       sampled_are : before.seat.sampled ++ before.seat.chain.tdo ∷ [] ≡ take at (tdi_bits frame) ++ tap.view.tdo ∷ []
       sampled_are = λ i. leads.there.sampled i ++ sym leads.there.stands.tdo i ∷ []
 
-      at_state : is_capture_dr before.seat.chain.state ≡ true
-      at_state = ap is_capture_dr (sym leads.there.stands.state) ∙ (both (is_capture_dr tap.view.state) (not tap.view.scan_open) capture).0
-
-      not_open : before.seat.chain.scan_open ≡ false
-      not_open = sym leads.there.stands.scan ∙ not_true tap.view.scan_open (both (is_capture_dr tap.view.state) (not tap.view.scan_open) capture).1
-
-      opens : opens_next sampled_turn.seat ≡ true
-      opens = λ i. leads.there.going i && (at_state i && (not (not_open i) && true))
+      amid_there : SampledAt frame tap at grant sampled_turn
+      amid_there = record { going = leads.there.going; holds = leads.there.holds; types = leads.there.types; acts = refl; sampled = sampled_are; stands = leads.there.stands }
 
       follows_sample : Follows layout group grant base_desk base desk sampled_turn
       follows_sample = follows_quiet base_desk desk base start sampled_turn to_sample follows
+
+      opens : opens_next sampled_turn.seat ≡ true
+      opens = here_opens frame tap at sampled_turn follows_sample amid_there capture
 
       -- where the grant waits
       pub wait_on : may_open desk.holder desk.waiting grant ≡ false
@@ -215,14 +311,9 @@ module _ (layout : LayoutShape) (grant : ℕ) (parts : AllParts layout.parts) (i
                 made = follows_sample.made;
               },
               record {
-                going = leads.there.going;
+                amid = record { going = leads.there.going; holds = leads.there.holds; types = leads.there.types; acts = refl; sampled = sampled_are; stands = leads.there.stands };
                 rests = waits_still layout grant sampled_turn opens may;
                 waits = joins grant before.waiting;
-                holds = leads.there.holds;
-                types = leads.there.types;
-                acts = refl;
-                sampled = sampled_are;
-                stands = leads.there.stands;
               },
             );
           }
@@ -231,80 +322,18 @@ module _ (layout : LayoutShape) (grant : ℕ) (parts : AllParts layout.parts) (i
           in_line None keeps = keeps
           in_line (Some holder) keeps = λ mine. record { scan = (keeps mine).scan; chain_open = (keeps mine).chain_open }
 
-      -- where the chain is the grant's: its scan is opened, and the cycle goes on to its fall
-      module _ (open_to : may_open desk.holder desk.waiting grant ≡ true) (bits : List Bool) (chain : ChainState) (captures : Captures layout group tap.view.codes bits desk.chain chain)
-          (frame_new : FrameState) (tap_new : VTapState) (parts_kept : tap_new.parts ≡ tap.parts) (put : PutsBit at tap.view.tdo frame frame_new) (scan_new : tap_new.view.scan_open ≡ true)
-          (moved : (c : ChainState) → types_of c ≡ tap.parts → StandsFor (record (opened_view bits tap.view) { state = next_state tap.view.state tms }) c → StandsFor tap_new.view (fall c)) where
-        abbrev desk_held : DeskView
-        desk_held = record { holder = Some grant; waiting = without grant desk.waiting; scan = Some (record { grant = grant; codes = tap.view.codes }); chain = chain }
-
-        abbrev risen_turn : Turn
-        risen_turn = captured layout grant (record before.seat { acts = Fall ∷ rest; sampled = before.seat.sampled ++ before.seat.chain.tdo ∷ []; chain = rise before.seat.chain tms tdi }) sampled_turn
-
-        abbrev fallen_turn : Turn
-        fallen_turn = record risen_turn { seat = record risen_turn.seat { acts = rest; chain = fall (rise before.seat.chain tms tdi) } }
-
-        may : may_open sampled_turn.holder sampled_turn.waiting grant ≡ true
-        may = (λ i. may_open (sym follows_sample.serves.holder i) (sym follows_sample.serves.waiting i) grant) ∙ open_to
-
-        rises : advanced sampled_turn.seat ≡ risen_turn.seat
-        rises = one_act (Rise tms tdi) (Fall ∷ rest) sampled_turn.seat leads.there.going refl
-
-        codes_are : tap.view.codes ≡ code_list before.seat.chain
-        codes_are = leads.there.stands.codes
-
-        captures_here : Captures layout group (code_list sampled_turn.seat.chain) bits desk.chain chain
-        captures_here = subst (λ cs. Captures layout group cs bits desk.chain chain) codes_are captures
-
-        captured_is : advanced_turn layout grant sampled_turn ≡ risen_turn
-        captured_is =
-            opened_turn layout grant parts is base_desk desk base sampled_turn whole follows_sample opens may
-            ∙ ap (λ s. captured layout grant s sampled_turn) rises
-
-        follows_risen : Follows layout group grant base_desk base desk_held risen_turn
-        follows_risen =
-            subst (Follows layout group grant base_desk base desk_held) captured_is
-            (subst (λ cs. Follows layout group grant base_desk base (record { holder = Some grant; waiting = without grant desk.waiting; scan = Some (record { grant = grant; codes = cs }); chain = chain }) (advanced_turn layout grant sampled_turn)) (sym codes_are)
-            (opens_scan layout grant parts is base_desk desk base sampled_turn whole follows_sample tms tdi opens may (ap (λ (s : Seat). s.chain) rises) bits chain captures_here))
-
-        bits_are : bits ≡ joined (dr_stages (rise before.seat.chain tms tdi).devices)
-        bits_are = captured_bits layout grant parts is base_desk desk base sampled_turn whole follows_sample tms tdi opens may (ap (λ (s : Seat). s.chain) rises) bits chain captures_here
-
-        stands_then : StandsFor tap_new.view (fall (rise before.seat.chain tms tdi))
-        stands_then = moved (rise before.seat.chain tms tdi) (rise_types before.seat.chain tms tdi ∙ leads.there.types)
-            (subst (λ b. StandsFor (record (opened_view b tap.view) { state = next_state tap.view.state tms }) (rise before.seat.chain tms tdi)) (sym bits_are)
-            (capture_edge tap.view before.seat.chain tms tdi leads.there.stands at_state))
-
-        open_risen : (rise before.seat.chain tms tdi).scan_open ≡ true
-        open_risen = sym (ap (λ (s : Seat). s.chain.scan_open) rises) ∙ opens_opens sampled_turn.seat opens
-
-        same : (fall (rise before.seat.chain tms tdi)).scan_open ≡ (rise before.seat.chain tms tdi).scan_open
-        same = sym stands_then.scan ∙ scan_new ∙ sym open_risen
-
-        holds_risen : Holds grant risen_turn
-        holds_risen = eq-eqb grant grant refl ∙ sym open_risen
-
-        to_fall : Quiet layout grant risen_turn fallen_turn
-        to_fall = quiet_act layout grant Fall rest risen_turn leads.there.going refl (no_rise_next risen_turn.seat refl) holds_risen same
-            (fall_contents (rise before.seat.chain tms tdi) same)
-            (λ h. fall_codes true (rise before.seat.chain tms tdi) (timed_rise before.seat.chain tms tdi (timed_shut false before.seat.chain not_open)) h same)
-
-        pub capture_on : GoesTo layout grant (λ turn. Follows layout group grant base_desk base desk_held turn × ShiftsAt frame_new tap_new (suc at) grant turn) start
-        capture_on = record {
-          next = fallen_turn;
-          steps = to_sample.steps + 1 + to_fall.steps;
-          made = to_fall.made ∙ ap (advanced_turns to_fall.steps layout grant) (sym captured_is ∙ ap (advanced_turn layout grant) to_sample.made ∙ sym (advanced_turns-add layout grant to_sample.steps 1 start))
-              ∙ sym (advanced_turns-add layout grant (to_sample.steps + 1) to_fall.steps start);
-          kept = ap (λ (s : Seat). record s { acts = rest; sampled = before.seat.sampled ++ before.seat.chain.tdo ∷ []; chain = fall (rise before.seat.chain tms tdi) }) leads.kept;
-          there = (
-            follows_quiet base_desk desk_held base risen_turn fallen_turn to_fall follows_risen,
-            record {
-              going = leads.there.going;
-              holds = holds_risen ∙ sym same;
-              types = fall_types (rise before.seat.chain tms tdi) ∙ rise_types before.seat.chain tms tdi ∙ leads.there.types ∙ sym parts_kept;
-              acts = (λ i. shift_acts (drop (suc at) (sym put.tms i)) ((sym (drop-set (tdi_bits frame) at tap.view.tdo) ∙ ap (drop (suc at)) (sym put.tdi)) i));
-              sampled = sampled_are ∙ sym (take-suc-set (tdi_bits frame) at tap.view.tdo in_tdi) ∙ ap (take (suc at)) (sym put.tdi);
-              stands = stands_then;
-            },
-          );
-        }
+      -- where the chain is the grant's
+      pub capture_on : (may_open desk.holder desk.waiting grant ≡ true) → (bits : List Bool) (chain : ChainState) → Captures layout group tap.view.codes bits desk.chain chain
+          → (frame_new : FrameState) (tap_new : VTapState) → tap_new.parts ≡ tap.parts → PutsBit at tap.view.tdo frame frame_new → tap_new.view.scan_open ≡ true
+          → ((c : ChainState) → types_of c ≡ tap.parts → StandsFor (record (opened_view bits tap.view) { state = next_state tap.view.state tms }) c → StandsFor tap_new.view (fall c))
+          → GoesTo layout grant (λ turn. Follows layout group grant base_desk base (record { holder = Some grant; waiting = without grant desk.waiting; scan = Some (record { grant = grant; codes = tap.view.codes }); chain = chain }) turn
+          × ShiftsAt frame_new tap_new (suc at) grant turn) start
+      capture_on open_to bits chain captures frame_new tap_new parts_kept put scan_new moved =
+          let on = capture_from frame tap at sampled_turn follows_sample amid_there capture open_to bits chain captures frame_new tap_new in_tdi parts_kept put scan_new moved in
+          record {
+            next = on.next;
+            steps = to_sample.steps + on.steps;
+            made = on.made ∙ ap (advanced_turns on.steps layout grant) to_sample.made ∙ sym (advanced_turns-add layout grant to_sample.steps on.steps start);
+            kept = on.kept ∙ ap (λ (s : Seat). record s { acts = on.next.seat.acts; sampled = on.next.seat.sampled; chain = on.next.seat.chain }) leads.kept;
+            there = on.there;
+          }

@@ -22,10 +22,10 @@ use Rattle.virtual_tap.specs.Views.{TapView, StandsFor, at_capture, opened_view}
 use Rattle.client_session.specs.Turns.{Turn, is_holder}
 use Rattle.client_session.specs.Sessions.{DeskView, OpenScan}
 use Rattle.client_session.specs.Stores.{HoldsShift}
-use Rattle.client_session.specs.Going.{ClosesAt, Follows, GoesTo, Leads, PutsBit, ShiftsAt, WaitsAt}
+use Rattle.client_session.specs.Going.{ClosesAt, Follows, GoesTo, Leads, PutsBit, SampledAt, ShiftsAt, WaitsAt}
 use Rattle.client_session.specs.Desks.{Attends, Closed, Entered, HoldsScan, IsDesk, IsSound, SideFits, Opened, desk_of, scan_on}
 use Rattle.client_session.proofs.Quietly.{goes_more}
-use Rattle.client_session.proofs.Attending.{follows_quiet, update_on, wait_on, capture_on}
+use Rattle.client_session.proofs.Attending.{follows_quiet, update_on, wait_on, capture_on, capture_from}
 
 pub entered : {C : Type 0} (layout : LayoutShape) (grant at : ℕ) (waits : List ℕ) (frame frame_new : FrameState) (old mid new : VTapState) (tdo tms : Bool) (desk : Token (ParkedView C) (OpenView C)) (before after : Option ChainState)
     → Opened layout grant waits old mid desk before after → tdo ≡ mid.view.tdo → PutsBit at tdo frame frame_new → new.view.scan_open ≡ true
@@ -146,3 +146,29 @@ pub more_legs : {C : Type 0} (layout : LayoutShape) (grant : ℕ) (base_desk : D
     → ((here : Turn) → Attends layout grant base_desk base Q desk now here → GoesTo layout grant (Attends layout grant base_desk base R next after) here)
     → GoesTo layout grant (Attends layout grant base_desk base R next after) turn
 more_legs layout grant base_desk base turn Q R desk next now after first more = goes_more layout grant (Attends layout grant base_desk base Q desk now) (Attends layout grant base_desk base R next after) turn first more
+
+-- a capture where the session had waited
+module _ (layout : LayoutShape) (grant : ℕ) (sound : IsSound layout grant) (base_desk : DeskView) (base turn : Turn) (whole : IsWhole layout base_desk.chain) {C : Type 0} (desk : Token (ParkedView C) (OpenView C)) where
+  pub resumed_leg : (frame frame_new : FrameState) (old new : VTapState) (at cycles : ℕ) (parked : ParkedView C) (queue : List ℕ) (desk_new : Token (ParkedView C) (OpenView C)) (before at_rest after : Option ChainState)
+      → at_capture old.view ≡ true → HoldsShift frame cycles → at < cycles → Answers desk grant (asked.Yours parked queue) → before ≡ at_rest → new.parts ≡ old.parts
+      → Entered layout grant at queue frame frame_new old new desk_new at_rest after
+      → Attends layout grant base_desk base (SampledAt frame old at grant) desk before turn → GoesTo layout grant (Attends layout grant base_desk base (ShiftsAt frame_new new (at + 1) grant) desk_new after) turn
+  resumed_leg frame frame_new old new at cycles parked queue desk_new before None after capture held lt answer same parts went_in attends = absurd (subst (λ told. Attends layout grant base_desk base (SampledAt frame old at grant) desk told turn) same attends)
+  resumed_leg frame frame_new old new at cycles parked queue desk_new before (Some chain) None capture held lt answer same parts went_in attends = absurd went_in.captured
+  resumed_leg frame frame_new old new at cycles parked queue desk_new before (Some chain) (Some chain_new) capture held lt answer same parts went_in attends =
+      let here = subst (λ told. Attends layout grant base_desk base (SampledAt frame old at grant) desk told turn) same attends in
+      let in_tdi : at < length (tdi_bits frame) = omega (arith, held.tdi) in
+      let on = capture_from layout grant sound.parts (group_of_laws layout (group_of layout.grants grant) sound.group_is) base_desk (desk_of layout desk chain) base turn whole here.0 frame old at turn here.0 here.1 capture
+      answer.0 went_in.bits chain_new went_in.captured frame_new new in_tdi parts went_in.put went_in.scan_open went_in.moved in
+      let shows = shown_as layout desk_new chain_new (Some grant) (without grant (waiting desk)) (Some (record { grant = grant; codes = old.view.codes })) went_in.held (went_in.waits_are ∙ answer.2) went_in.scan in
+      let one : suc at ≡ at + 1 = omega arith in
+      record {
+        next = on.next;
+        steps = on.steps;
+        made = on.made;
+        kept = on.kept;
+        there = (
+          subst (λ d. Follows layout (group_of layout.grants grant) grant base_desk base d on.next) shows on.there.0,
+          subst (λ k. ShiftsAt frame_new new k grant on.next) one on.there.1,
+        );
+      }

@@ -108,16 +108,20 @@ pub record Follows (layout : LayoutShape) (group : List ℕ) (grant : ℕ) (base
   pub due : base.cost ≤ turn.cost
   pub made : IsWithin desk.chain.made (raised base_desk.chain.made (turn.cost - base.cost))
 
--- the session waits amid a `shift:`: TDO is sampled for the cycle at a place, and its rise may not come yet
-pub record WaitsAt (layout : LayoutShape) (frame : FrameState) (tap : VTapState) (at grant : ℕ) (turn : Turn) : Type 0 where
+-- amid a `shift:`, with TDO sampled for the cycle at a place, before its rise
+pub record SampledAt (frame : FrameState) (tap : VTapState) (at grant : ℕ) (turn : Turn) : Type 0 where
   pub going : turn.seat.going ≡ true
-  pub rests : advanced_turn layout grant turn ≡ turn
-  pub waits : is_among grant turn.waiting ≡ true
   pub holds : Holds grant turn
   pub types : types_of turn.seat.chain ≡ tap.parts
   pub acts : turn.seat.acts ≡ Rise (bit_at (tms_bits frame) at) (bit_at (tdi_bits frame) at) ∷ Fall ∷ shift_acts (drop (suc at) (tms_bits frame)) (drop (suc at) (tdi_bits frame))
   pub sampled : turn.seat.sampled ≡ take at (tdi_bits frame) ++ tap.view.tdo ∷ []
   pub stands : StandsFor tap.view turn.seat.chain
+
+-- the session waits there, since the rise may not come yet
+pub record WaitsAt (layout : LayoutShape) (frame : FrameState) (tap : VTapState) (at grant : ℕ) (turn : Turn) : Type 0 where
+  pub amid : SampledAt frame tap at grant turn
+  pub rests : advanced_turn layout grant turn ≡ turn
+  pub waits : is_among grant turn.waiting ≡ true
 
 -- steps of the grant lead from a turn to one of which this holds
 pub record GoesTo (layout : LayoutShape) (grant : ℕ) (P : Turn → Type 0) (turn : Turn) : Type 0 where

@@ -7,7 +7,8 @@ ghost use Rattle.scan_bits.specs.Registers.{bit_at};
 ghost use Rattle.chain_model.specs.Chains.{ChainState};
 ghost use Rattle.chain_model.specs.Cycles.{rise, fall};
 ghost use Rattle.scan_share.specs.Scans.{IsWhole, types_of};
-ghost use Rattle.chain_token.specs.Tokens.{waiting};
+ghost use Rattle.chain_token.specs.Tokens.{holder, waiting};
+ghost use Rattle.chain_token.specs.Waiting.{may_open};
 ghost use Rattle.xvc_frame.specs.Frames.{tms_bits, tdi_bits};
 ghost use Rattle.virtual_tap.specs.Taps.{IsOfLayout, KeepsTap, ScansAt, at_update};
 ghost use Rattle.virtual_tap.specs.Views.{MovesAs, StandsFor, at_capture};
@@ -15,7 +16,7 @@ ghost use Rattle.client_session.specs.Turns.{Turn};
 ghost use Rattle.client_session.specs.Sessions.{DeskView};
 ghost use Rattle.client_session.specs.Stores.{HoldsShift};
 ghost use Rattle.client_session.specs.Desks.{Attends, Entered, IsDesk, IsSound, LegTo, LegWithin, MayWait, StopsAt, StopsWell, cable_after, cable_of, cable_then};
-ghost use Rattle.client_session.specs.Going.{GoesTo, IsToClose, Leads, PausesWell, PutsBit, ShiftsAt, WalksTo, closed_if};
+ghost use Rattle.client_session.specs.Going.{GoesTo, IsToClose, Leads, PausesWell, PutsBit, SampledAt, ShiftsAt, WalksTo, closed_if};
 
 use crate::desk::{Desk, capture, update};
 use chain_model::Cable;
@@ -279,6 +280,53 @@ pub fn shift_on<C: Cable>(
             Leg::Made => return Ok((None, desk)),
             Leg::Waits(cycle) => return Ok((Some(cycle), desk)),
             Leg::On(cycle) => at = cycle,
+        }
+    }
+}
+
+/// Goes on through a `shift:` from the rise before which the session waited, where the chain is now the grant's.
+///
+/// `Broken` comes only where the cable's count of faults rose in the call.
+pub fn resume_shift<C: Cable>(
+    frame: &mut XvcFrame,
+    tap: &mut VTap,
+    grant: usize,
+    desk: Desk<C>,
+    layout: &Layout,
+    cycles: u32,
+    at: u32,
+) -> Result<(Option<u32>, Desk<C>), Broken<C>>
+    requires layout { IsOfLayout layout.now tap.old }
+    requires grant { tap.old.grant ≡ grant }
+    requires sound { IsSound layout.now grant }
+    requires capture { at_capture tap.old.view ≡ true }
+    requires there { is_some tap.old.view.register ≡ true }
+    requires held { HoldsShift frame.old cycles }
+    requires within { at < cycles }
+    requires desk { IsDesk layout.now grant tap.old.view desk }
+    requires first { may_open (holder desk) (waiting desk) grant ≡ true }
+    requires whole { Told (C.chain (cable_of desk.side)) (IsWhole layout.now) }
+    ensures went { IfOk result (λ pair. (base_desk : DeskView) (base turn : Turn) → IsWhole layout.now base_desk.chain
+        → Attends layout.now grant base_desk base (SampledAt frame.old tap.old at grant) desk (C.chain (cable_of desk.side)) turn
+        → GoesTo layout.now grant (Attends layout.now grant base_desk base (StopsAt pair.0 layout.now frame.new tap.new cycles grant) pair.1 (C.chain (cable_of pair.1.side))) turn) }
+    ensures stops { IfOk result (λ pair. StopsWell pair.0 tap.new cycles grant (waiting pair.1)) }
+    ensures there { IfOk result (λ pair. is_some tap.new.view.register ≡ true) }
+    ensures low { IfOk result (λ pair. ScansAt false tap.new.view) }
+    ensures desk { IfOk result (λ pair. IsDesk layout.now grant tap.new.view pair.1) }
+    ensures whole { IfOk result (λ pair. Told (C.chain (cable_of pair.1.side)) (IsWhole layout.now)) }
+    ensures vector { frame.new.vector ≡ frame.old.vector }
+    ensures held { HoldsShift frame.new cycles }
+    ensures same { (tap.new.grant ≡ tap.old.grant) × (tap.new.parts ≡ tap.old.parts) }
+    ensures mark { C.mark (cable_then result) ≡ C.mark (cable_of desk.side) }
+    ensures trst { C.trst (cable_then result) ≡ C.trst (cable_of desk.side) }
+    ensures cause { HasCause (C.fault_count (cable_of desk.side)) (C.fault_count (cable_then result)) result }
+{
+    match desk.ask(grant) {
+        Asked::Wait(_desk) => unreachable!(),
+        Asked::Yours(parked, queue) => {
+            let desk = enter(frame, tap, grant, parked, queue, layout, at)?;
+            let (stop, desk) = shift_on(frame, tap, grant, desk, layout, cycles, at + 1)?;
+            Ok((stop, desk))
         }
     }
 }
