@@ -1,8 +1,8 @@
 -- Connections after a change of one of them.
-use Rattle.std.proofs.Common.{◌≡◌, ◌≢◌, ◌≤◌, ◌+◌, ℕ, Bool, true, false, List, [], ◌∷◌, ◌++◌, length, map, nat_eq, ◌||◌, ap, ◌∙◌, sym, refl, arith, eqb-true, eq-eqb, subst}
+use Rattle.std.proofs.Common.{◌≡◌, ◌≢◌, ◌≤◌, ◌+◌, ℕ, Bool, true, false, List, [], ◌∷◌, ◌++◌, nat_eq, ◌||◌, ap, ◌∙◌, sym, refl, arith, eqb-true, eq-eqb, subst}
 use Rattle.wire_port.specs.Offers.{ScriptLine, Peer, peer_of, changed_peer}
 use Rattle.wire_port.specs.Links.{LinkView, new_link}
-use Rattle.wire_port.specs.Slots.{conns, peers_of, has_link, link_of, changed_link}
+use Rattle.wire_port.specs.Slots.{peers_of, has_link, link_of, changed_link}
 use Rattle.wire_port.specs.Playing.{sent_on, total, EachFits}
 
 pub apart : (a b : ℕ) → a ≢ b → nat_eq a b ≡ false
@@ -30,9 +30,11 @@ other_link conn change (link ∷ links) other keeps ne = go (nat_eq link.peer.co
   where
     here : nat_eq link.peer.conn conn ≡ true → nat_eq link.peer.conn other ≡ false
     here is = apart link.peer.conn other (λ same. ne (sym same ∙ eqb-true link.peer.conn conn is))
+
     inner : (t : Bool) → nat_eq link.peer.conn other ≡ t → link_of (changed_link conn change links) other ≡ link_of links other → link_of (link ∷ changed_link conn change links) other ≡ link_of (link ∷ links) other
     inner true is rest = rw is refl
     inner false is rest = rw is rest
+
     go : (t : Bool) → nat_eq link.peer.conn conn ≡ t → link_of (changed_link conn change links) other ≡ link_of links other → link_of (changed_link conn change (link ∷ links)) other ≡ link_of (link ∷ links) other
     go true is rest = rw is (rw (keeps link) (rw (here is) refl))
     go false is rest = rw is (inner (nat_eq link.peer.conn other) refl rest)
@@ -47,9 +49,11 @@ kept conn change (link ∷ links) other part keeps same = go (nat_eq link.peer.c
         → part (link_of (link ∷ changed_link conn change links) other) ≡ part (link_of (link ∷ links) other)
     inner true is rest = rw is refl
     inner false is rest = rw is rest
+
     first : (t : Bool) → nat_eq link.peer.conn other ≡ t → part (link_of (change link ∷ links) other) ≡ part (link_of (link ∷ links) other)
     first true is = let at : nat_eq (change link).peer.conn other ≡ true = ap (λ (n : ℕ). nat_eq n other) (keeps link) ∙ is in rw (at, is) (same link)
     first false is = let at : nat_eq (change link).peer.conn other ≡ false = ap (λ (n : ℕ). nat_eq n other) (keeps link) ∙ is in rw (at, is) refl
+
     go : (t : Bool) → nat_eq link.peer.conn conn ≡ t → part (link_of (changed_link conn change links) other) ≡ part (link_of links other)
         → part (link_of (changed_link conn change (link ∷ links)) other) ≡ part (link_of (link ∷ links) other)
     go true is rest = rw is (first (nat_eq link.peer.conn other) refl)
@@ -194,6 +198,7 @@ fresh_joined links link other part fresh plain = go (has_link other links) refl
     inner : (t : Bool) → nat_eq link.peer.conn other ≡ t → part (link_of (link ∷ []) other) ≡ part (new_link other 0)
     inner true is = rw is (ap part fresh ∙ plain link.peer.conn link.offers_left)
     inner false is = rw is refl
+
     go : (t : Bool) → has_link other links ≡ t → part (link_of (links ++ link ∷ []) other) ≡ part (link_of links other)
     go true has = ap part (link_joined links link other has)
     go false has = ap part (link_behind links link other has) ∙ inner (nat_eq link.peer.conn other) refl ∙ sym (ap part (none_of links other has))

@@ -18,8 +18,8 @@ pub fits_changed : (lines : Vec Line Global) (played : ℕ) (log now then : LogV
 fits_changed lines played log now then slots after opened ports conn change fits now_is after_is play = record {
   some = fits.some;
   play =
-    subst (λ (s : SlotsView). IsPlay (map line_of (drop played lines.items)) now s.links s.waiting opened.items) (sym after_is)
-    (subst (λ (l : LogView). IsPlay (map line_of (drop played lines.items)) l (changed_link conn change slots.links) slots.waiting opened.items) (sym now_is) play);
+      subst (λ (s : SlotsView). IsPlay (map line_of (drop played lines.items)) now s.links s.waiting opened.items) (sym after_is)
+      (subst (λ (l : LogView). IsPlay (map line_of (drop played lines.items)) l (changed_link conn change slots.links) slots.waiting opened.items) (sym now_is) play);
   opened_memory = subst (λ (s : SlotsView). vec_len opened + length s.waiting ≤ vec_capacity opened) (sym after_is) fits.opened_memory;
   ports_memory = fits.ports_memory;
 }
@@ -36,13 +36,15 @@ one_more_played lines played count next all some is = ap (map line_of) go ∙ sy
     ended none =
         nil_from_length (drop next lines) (omega (arith, length-drop next lines, all, some, is, none))
         ∙ sym (nil_from_length (drop 1 (drop played lines)) (omega (arith, length-drop 1 (drop played lines), length-drop played lines, all, none)))
+
     more : played < count → drop next lines ≡ drop 1 (drop played lines)
     more left = ap (λ (n : ℕ). drop n lines) (omega_next left) ∙ sym (drop-drop 1 played lines)
       where
         omega_next : played < count → next ≡ played + 1
         omega_next below = omega (arith, is, below)
+
     go : drop next lines ≡ drop 1 (drop played lines)
-    go = elim (cases_lt played count) [ | inl left ↦ more left | inr none ↦ ended none ]
+    go = elim (cases_lt played count) [ inl left ↦ more left | inr none ↦ ended none ]
 
 pub fits_next : (lines : Vec Line Global) (played next : ℕ) (log now : LogView) (slots after : SlotsView) (opened then : Vec (ℕ × ℕ) Global) (ports : Vec ℕ Global) → FitsPlay lines played log slots opened ports
     → next ≤ vec_len lines → map line_of (drop next lines.items) ≡ lines_behind (map line_of (drop played lines.items)) → IsPlay (lines_behind (map line_of (drop played lines.items))) now after.links after.waiting then.items

@@ -1,14 +1,13 @@
 -- What a line of a script does.
-use Rattle.std.proofs.Common.{◌≡◌, ◌≢◌, ◌≤◌, ◌<◌, ◌+◌, ◌-◌, ◌*◌, ℕ, Bool, true, false, not, List, [], ◌∷◌, ◌++◌, length, map, nat_eq, ap, ◌∙◌, sym, refl, arith, eqb-true, eq-eqb, subst, if◌then◌else◌, Result, Ok}
-use Rattle.std.proofs.lemmas.List.{map-append}
+use Rattle.std.proofs.Common.{◌≡◌, ◌≢◌, ◌≤◌, ℕ, Bool, true, false, not, List, [], ◌∷◌, ◌++◌, length, nat_eq, ap, ◌∙◌, sym, refl, eqb-true, eq-eqb, subst, if◌then◌else◌}
 use Rattle.std.specs.declared.option.Option.{Option}
 use Rattle.std.specs.declared.option.Option.TheVariants.{None, Some}
 use Rattle.std.specs.List.{list_any}
-use Rattle.wire_port.specs.Steps.{Step, opens, shuts}
+use Rattle.wire_port.specs.Steps.{opens, shuts}
 use Rattle.wire_port.specs.Steps.Step.{Opened}
-use Rattle.wire_port.specs.Offers.{ScriptLine, Peer, new_peer, peer_of, changed_peer}
+use Rattle.wire_port.specs.Offers.{ScriptLine, Peer, changed_peer}
 use Rattle.wire_port.specs.Offers.ScriptLine.{Open, Send, Drop, Room}
-use Rattle.wire_port.specs.Wires.{WireView, Last}
+use Rattle.wire_port.specs.Wires.{Last}
 use Rattle.wire_port.specs.Calls.{with_last, after_named}
 use Rattle.wire_port.specs.Links.{LinkView, LogView, new_link, logged, link_offered, link_dropped, link_room}
 use Rattle.wire_port.specs.Slots.{SlotsView, Opens, has_link, link_of, changed_link, peers_of, conns}
@@ -16,7 +15,7 @@ use Rattle.wire_port.specs.Playing.{IsPlay, EachFresh}
 use Rattle.wire_port.specs.Played.{told_of, unless_shut, peers_unless_shut}
 use Rattle.wire_port.specs.declared.wire.Found.{Found}
 use Rattle.wire_port.specs.declared.wire.Found.TheVariants as found
-use Rattle.wire_port.proofs.Changing.{Keeps, apart, kept, by_conn, none_of, peer_is, peers_changed, link_joined, link_behind, has_joined, fresh_joined}
+use Rattle.wire_port.proofs.Changing.{Keeps, apart, kept, by_conn, none_of, peer_is, peers_changed, fresh_joined}
 use Rattle.wire_port.proofs.Places.{none_changed}
 use Rattle.wire_port.proofs.Moves.{Quiet, quiet, passed, sent_now, opened_now}
 
@@ -74,11 +73,14 @@ named_told conn change lines log links waiting opened keeps last given live play
   where
     here : with_last conn Last.Other (λ c. (link_of links c).last) conn ≡ Last.Other
     here = ap (λ (t : Bool). if t then Last.Other else (link_of links conn).last) (eq-eqb conn conn refl)
+
     there : (other : ℕ) → other ≢ conn → with_last conn Last.Other (λ c. (link_of links c).last) other ≡ (link_of links other).last
     there other ne = ap (λ (t : Bool). if t then Last.Other else (link_of links other).last) (apart other conn ne)
+
     absent_same : has_link conn links ≡ false → (other : ℕ) → (t : Bool) → nat_eq other conn ≡ t → (link_of links other).last ≡ (if t then Last.Other else (link_of links other).last)
     absent_same absent other true is = ap (λ (n : ℕ). (link_of links n).last) (eqb-true other conn is) ∙ ap (λ (link : LinkView). link.last) (none_of links conn absent)
     absent_same absent other false is = refl
+
     told : (other : ℕ) → (link_of (changed_link conn change links) other).last ≡ with_last conn Last.Other (λ c. (link_of links c).last) other
     told other =
         either (has_link conn links)
@@ -137,13 +139,17 @@ open_told conn port now log old new opened first play =
   where
     fresh : first.link ≡ new_link first.link.peer.conn first.link.offers_left
     fresh = (subst EachFresh first.waiting play.fresh).0
+
     none : has_link conn old.links ≡ false
     none = sym (play.linked conn) ∙ (open_fits conn port now log old new opened first play).0
+
     was : (link_of old.links conn).last ≡ Last.Other
     was = ap (λ (link : LinkView). link.last) (none_of old.links conn none)
+
     now_is : (t : Bool) → (if t then Last.Other else (link_of old.links conn).last) ≡ Last.Other
     now_is true = refl
     now_is false = was
+
     told : (other : ℕ) (t : Bool) → nat_eq other conn ≡ t
         → (link_of old.links other).last ≡ with_last conn (if nat_eq (shuts conn (log.steps ++ Opened conn port ∷ [])) 0 then Last.Other else (link_of old.links conn).last) (λ c. (link_of old.links c).last) other
     told other true is =

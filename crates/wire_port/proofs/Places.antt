@@ -1,9 +1,8 @@
 -- Where a connection stands among others.
-use Rattle.std.proofs.Common.{◌≡◌, ◌≢◌, ◌≤◌, ◌<◌, ◌+◌, ℕ, zero, suc, Bool, true, false, List, [], ◌∷◌, ◌++◌, length, map, nat_eq, get_or, set, take, drop, ap, ◌∙◌, sym, refl, arith, eqb-true, eq-eqb, length-append, subst, append_assoc}
+use Rattle.std.proofs.Common.{◌≡◌, ◌≢◌, ◌≤◌, ◌<◌, ℕ, zero, suc, Bool, true, false, List, [], ◌∷◌, ◌++◌, length, nat_eq, get_or, set, ap, ◌∙◌, sym, refl, arith, eqb-true, eq-eqb, length-append, subst, append_assoc}
 use Rattle.std.proofs.lemmas.List.{map-append, length-map, get_or-map, get_or_append_left}
-use Rattle.std.specs.List.{list_any}
-use Rattle.wire_port.specs.Links.{LinkView, new_link}
-use Rattle.wire_port.specs.Slots.{conns, peers_of, has_link, link_of, changed_link, IsTable, IsPlace}
+use Rattle.wire_port.specs.Links.{LinkView}
+use Rattle.wire_port.specs.Slots.{conns, has_link, link_of, changed_link, IsTable, IsPlace}
 
 -- a place of a connection among those that have it
 record At (conn : ℕ) (links : List LinkView) : Type 0 where
@@ -119,7 +118,7 @@ pub table_stays : (table : List ℕ) (conn : ℕ) (change : LinkView → LinkVie
 table_stays table conn change links waiting now keeps now_is is =
     let conn_of : LinkView → ℕ = λ (link : LinkView). link.peer.conn in
     let same : conns (now ++ waiting) ≡ conns (links ++ waiting) =
-        map-append conn_of now waiting ∙ ap (λ (all : List ℕ). all ++ conns waiting) (ap conns now_is ∙ conns_stay conn change links keeps) ∙ sym (map-append conn_of links waiting) in
+    map-append conn_of now waiting ∙ ap (λ (all : List ℕ). all ++ conns waiting) (ap conns now_is ∙ conns_stay conn change links keeps) ∙ sym (map-append conn_of links waiting) in
     subst (IsTable table) (sym same) is
 
 -- the first of those that wait joins the others, and nothing changes in the order

@@ -1,5 +1,5 @@
 -- The connections of a script before it is played.
-use Rattle.std.proofs.Common.{◌≡◌, ◌≢◌, ◌≤◌, ◌<◌, ◌+◌, ◌*◌, ◌⊎◌, inl, inr, ℕ, zero, suc, Bool, true, false, not, ◌&&◌, ◌||◌, List, [], ◌∷◌, ◌++◌, length, map, take, drop, nat_eq, get_or, set, get_or-set_same, get_or-set_other, ap, ◌∙◌, sym, refl, arith, eqb-true, eq-eqb, subst, append_assoc, if◌then◌else◌, replicate, length-append, length-drop, drop-cons, add-one}
+use Rattle.std.proofs.Common.{◌≡◌, ◌≤◌, ◌<◌, ◌+◌, ◌*◌, ◌⊎◌, inl, inr, ℕ, Bool, true, false, not, ◌&&◌, ◌||◌, List, [], ◌∷◌, ◌++◌, length, map, take, drop, nat_eq, get_or, set, get_or-set_same, get_or-set_other, ap, ◌∙◌, sym, refl, arith, eq-eqb, subst, append_assoc, if◌then◌else◌, replicate, length-append, drop-cons, add-one}
 use Rattle.std.proofs.lemmas.List.{append-nil, map-append, length-map, length-set, length-replicate, get_or-replicate, get_or_append_left, take-append-le, take_all}
 use Rattle.std.proofs.Math.Seq.{get_or-append_seam}
 use Rattle.std.proofs.lemmas.Bool.{cases_lt}
@@ -11,9 +11,8 @@ use Rattle.wire_port.specs.Offers.{ScriptLine, opens_line, lines_open_once}
 use Rattle.wire_port.specs.Offers.ScriptLine.{Open, Send, Drop, Room}
 use Rattle.wire_port.specs.Links.{LinkView, LogView, new_link}
 use Rattle.wire_port.specs.Scripts.{line_of}
-use Rattle.wire_port.specs.Slots.{SlotsView, IsTable, conns}
-use Rattle.wire_port.specs.Playing.{sent, sent_on, opened_by, opened_in, spare, on_offer, total, EachFits, EachFresh, Prepared, Offers, IsReady, IsPlay}
-use Rattle.wire_port.proofs.Changing.{apart}
+use Rattle.wire_port.specs.Slots.{SlotsView, conns}
+use Rattle.wire_port.specs.Playing.{sent, sent_on, opened_by, opened_in, EachFits, EachFresh, Prepared, Offers, IsReady, IsPlay}
 
 -- ---- how many bytes are offered
 
@@ -100,39 +99,52 @@ prepared_more all left conn port waiting table offers link room offered below ro
   where
     parts : (list_any (opens_line conn) left ≡ false) × (lines_open_once left ≡ true)
     parts = both (list_any (opens_line conn) left) (lines_open_once left) prepared.once
+
     conn_is : link.peer.conn ≡ conn
     conn_is = ap (λ (l : LinkView). l.peer.conn) link_is
+
     room_of : link.offers_left ≡ room
     room_of = ap (λ (l : LinkView). l.offers_left) link_is
+
     on_conn : sent_on link.peer.conn all ≡ sent_on conn all
     on_conn = ap (λ (n : ℕ). sent_on n all) conn_is
+
     order_is : conns (waiting ++ link ∷ []) ≡ conns waiting ++ conn ∷ []
     order_is = map-append (λ (l : LinkView). l.peer.conn) waiting (link ∷ []) ∙ ap (λ (n : ℕ). conns waiting ++ n ∷ []) conn_is
+
     count : length (conns waiting) ≡ length waiting
     count = length-map waiting (λ (l : LinkView). l.peer.conn)
+
     -- the place of one before, or of the new one
     Place : ℕ → Type 0
     Place place = ((place < length waiting) × (get_or (conns (waiting ++ link ∷ [])) place 0 ≡ get_or (conns waiting) place 0)) ⊎ ((place ≡ length waiting) × (get_or (conns (waiting ++ link ∷ [])) place 0 ≡ conn))
+
     split : (place : ℕ) → place < length waiting + 1 → Place place
     split place within = elim (cases_lt place (length waiting)) [
       | inl before ↦ inl (before, ap (λ (l : List ℕ). get_or l place 0) order_is ∙ get_or_append_left (conns waiting) (conn ∷ []) 0 place (omega (arith, before, count)))
       | inr other ↦
-        let here : place ≡ length (conns waiting) = omega (arith, other, within, count) in
-        inr (here ∙ count, ap (λ (l : List ℕ). get_or l place 0) order_is ∙ ap (λ (n : ℕ). get_or (conns waiting ++ conn ∷ []) n 0) here ∙ get_or-append_seam (conns waiting) conn [] 0)
+          let here : place ≡ length (conns waiting) = omega (arith, other, within, count) in
+          inr (here ∙ count, ap (λ (l : List ℕ). get_or l place 0) order_is ∙ ap (λ (n : ℕ). get_or (conns waiting ++ conn ∷ []) n 0) here ∙ get_or-append_seam (conns waiting) conn [] 0)
     ]
+
     cases : (place : ℕ) → place < length (waiting ++ link ∷ []) → Place place
     cases place within = split place (omega (arith, within, length-append waiting (link ∷ [])))
+
     cases_of : (place : ℕ) → place < length (conns (waiting ++ link ∷ [])) → Place place
     cases_of place within = split place (omega (arith, within, length-map (waiting ++ link ∷ []) (λ (l : LinkView). l.peer.conn), length-append waiting (link ∷ [])))
+
     -- one before is another connection
     another : (place : ℕ) → place < length waiting → (nat_eq (get_or (conns waiting) place 0) conn ≡ false) × (list_any (opens_line (get_or (conns waiting) place 0)) left ≡ false)
     another place before = behind (nat_eq (get_or (conns waiting) place 0) conn) (list_any (opens_line (get_or (conns waiting) place 0)) left) (prepared.apart place before)
+
     later : (place : ℕ) → place < length (waiting ++ link ∷ []) → Place place → list_any (opens_line (get_or (conns (waiting ++ link ∷ [])) place 0)) left ≡ false
     later place within (inl before) = ap (λ (n : ℕ). list_any (opens_line n) left) before.1 ∙ (another place before.0).1
     later place within (inr here) = ap (λ (n : ℕ). list_any (opens_line n) left) here.1 ∙ parts.0
+
     small : (place : ℕ) → Place place → get_or (conns (waiting ++ link ∷ [])) place 0 < 65536
     small place (inl before) = omega (arith, before.1, prepared.places.small place (omega (arith, before.0, count)))
     small place (inr here) = omega (arith, here.1, below)
+
     found : (place default : ℕ) → Place place → get_or (set table conn (length waiting)) (get_or (conns (waiting ++ link ∷ [])) place 0) default ≡ place
     found place default (inl before) =
         ap (λ (n : ℕ). get_or (set table conn (length waiting)) n default) before.1

@@ -1,7 +1,7 @@
 -- Steps with one more behind them.
-use Rattle.std.proofs.Common.{◌≡◌, ◌≢◌, ◌+◌, ℕ, Bool, true, false, not, ◌&&◌, ◌||◌, List, [], ◌∷◌, ◌++◌, length, nat_eq, ap, ◌∙◌, sym, refl, arith, eqb-true, eq-eqb}
+use Rattle.std.proofs.Common.{◌≡◌, ◌+◌, ℕ, Bool, true, false, not, ◌&&◌, ◌||◌, List, [], ◌∷◌, ◌++◌, nat_eq, ap, ◌∙◌, sym, refl, arith, eq-eqb}
 use Rattle.std.specs.List.{list_any}
-use Rattle.wire_port.specs.Steps.{Step, opens, opens_once, is_gone_step, has_gone, shuts, taken_from}
+use Rattle.wire_port.specs.Steps.{Step, opens, opens_once, shuts, taken_from}
 use Rattle.wire_port.specs.Steps.Step.{Opened, Took, Gone, Shut}
 use Rattle.wire_port.specs.Playing.{opened_in}
 use Rattle.wire_port.proofs.Changing.{apart}
@@ -81,6 +81,7 @@ once_behind (Opened conn port ∷ steps) step once new = go (list_any (opens con
   where
     any : (t : Bool) → list_any (opens conn) steps ≡ t → list_any (opens conn) (steps ++ step ∷ []) ≡ t
     any t is = any_behind (opens conn) steps step ∙ (λ i. is i || other_opens conn port steps step new i) ∙ or_false t
+
     go : (t : Bool) → list_any (opens conn) steps ≡ t → (not (list_any (opens conn) steps) && opens_once steps) ≡ true → (opens_once steps ≡ true → opens_once (steps ++ step ∷ []) ≡ true)
         → (not (list_any (opens conn) (steps ++ step ∷ [])) && opens_once (steps ++ step ∷ [])) ≡ true
     go true is at rest = absurd (cc (rw is at at))

@@ -1,19 +1,18 @@
 -- What a script wire tells after each call.
-use Rattle.std.proofs.Common.{◌≡◌, ◌≢◌, ◌≤◌, ◌<◌, ◌+◌, ◌-◌, ◌*◌, ℕ, Bool, true, false, not, List, [], ◌∷◌, ◌++◌, length, take, drop, nat_eq, nat_lt, ap, ◌∙◌, sym, refl, arith, eqb-true, eq-eqb, subst, if◌then◌else◌, length-take}
+use Rattle.std.proofs.Common.{◌≡◌, ◌≤◌, ◌+◌, ℕ, Bool, true, false, List, [], ◌∷◌, ◌++◌, length, take, nat_lt, ap, ◌∙◌, sym, refl, arith, eq-eqb, subst, if◌then◌else◌, length-take}
 use Rattle.std.proofs.lemmas.List.{append-nil}
-use Rattle.std.specs.List.{list_any}
-use Rattle.wire_port.specs.Steps.{Step, opens, opens_once, has_gone, shuts, taken_from}
-use Rattle.wire_port.specs.Steps.Step.{Opened, Took, Gone, Shut}
-use Rattle.wire_port.specs.Offers.{ScriptLine, Answer, Peer, peer_of, within_room, take_answer, give_answer, limited_answer, some_or_none, most_given, given_piece, taken_bytes}
-use Rattle.wire_port.specs.Wires.{WireView, Last, last_of_take, last_of_give}
-use Rattle.wire_port.specs.Calls.{IsWire, IsOpen, CanBeShut, with_last, with_given, after_take, after_give, after_shut, steps_of_take, steps_of_give, bytes_of, peers_after_take, peers_after_give, peers_after_shut}
-use Rattle.wire_port.specs.Links.{LinkView, LogView, new_link, logged, logged_bytes, link_after_take, link_after_give, link_shut, log_after_take, log_after_give, RoomForTake, RoomForGive}
+use Rattle.wire_port.specs.Steps.{has_gone}
+use Rattle.wire_port.specs.Steps.Step.{Shut}
+use Rattle.wire_port.specs.Offers.{ScriptLine, Answer, Peer, within_room, take_answer, limited_answer, some_or_none, most_given, given_piece, taken_bytes}
+use Rattle.wire_port.specs.Wires.{Last, last_of_take, last_of_give}
+use Rattle.wire_port.specs.Calls.{IsWire, with_last, with_given, after_take, after_give, after_shut, steps_of_take, steps_of_give, bytes_of, peers_after_take, peers_after_give, peers_after_shut}
+use Rattle.wire_port.specs.Links.{LinkView, LogView, logged, link_after_take, link_after_give, link_shut, log_after_take, log_after_give, RoomForTake, RoomForGive}
 use Rattle.wire_port.specs.Slots.{has_link, link_of, changed_link, peers_of}
-use Rattle.wire_port.specs.Playing.{IsPlay, on_offer}
+use Rattle.wire_port.specs.Playing.{IsPlay}
 use Rattle.wire_port.specs.Played.{told_of}
 use Rattle.wire_port.proofs.Keeping.{take_keeps, give_keeps}
-use Rattle.wire_port.proofs.Changing.{Keeps, apart, kept, by_conn, none_of, peer_is, peers_changed, peers_stay}
-use Rattle.wire_port.proofs.Moves.{quiet, gone_now, took_now, shut_now}
+use Rattle.wire_port.proofs.Changing.{Keeps, apart, kept, by_conn, none_of, peers_changed, peers_stay}
+use Rattle.wire_port.proofs.Moves.{quiet, gone_now, took_now}
 
 -- a wire with these lines, steps and connections is one
 pub is_wire : (lines : List ScriptLine) (log : LogView) (links waiting : List LinkView) (opened : List (ℕ × ℕ)) → IsPlay lines log links waiting opened → IsWire (told_of log links)
@@ -105,6 +104,7 @@ given_well taken piece bytes peer is = go (nat_lt (most_given taken) (length pee
   where
     never : (other : List ℕ) → Answer.NotNow ≡ Answer.Bytes other → ⊥
     never other at = absurd (cc at)
+
     go : (t d : Bool) → (if t then Answer.Gone else (if d then Answer.Gone else some_or_none Answer.NotNow (within_room peer.room piece))) ≡ Answer.Bytes bytes → within_room peer.room piece ≡ bytes
     go true d at = absurd (cc at)
     go false true at = absurd (cc at)
@@ -130,9 +130,9 @@ pub give_told : (conn taken : ℕ) (piece : List ℕ) (answer : Answer) (log : L
 give_told conn taken piece answer log links has is =
     let change = link_after_give piece answer in
     let given : (other : ℕ) → (link_of (changed_link conn change links) other).peer.given ≡ with_given conn (bytes_of answer) (λ c. (link_of links c).peer.given) other =
-        by_conn conn change links (give_keeps piece answer) has (λ other link. link.peer.given ≡ with_given conn (bytes_of answer) (λ c. (link_of links c).peer.given) other)
-        (give_given taken piece answer (link_of links conn) is ∙ sym (ap (λ (t : Bool). if t then (link_of links conn).peer.given ++ bytes_of answer else (link_of links conn).peer.given) (eq-eqb conn conn refl)))
-        (λ other ne. sym (ap (λ (t : Bool). if t then (link_of links other).peer.given ++ bytes_of answer else (link_of links other).peer.given) (apart other conn ne))) in
+    by_conn conn change links (give_keeps piece answer) has (λ other link. link.peer.given ≡ with_given conn (bytes_of answer) (λ c. (link_of links c).peer.given) other)
+    (give_given taken piece answer (link_of links conn) is ∙ sym (ap (λ (t : Bool). if t then (link_of links conn).peer.given ++ bytes_of answer else (link_of links conn).peer.given) (eq-eqb conn conn refl)))
+    (λ other ne. sym (ap (λ (t : Bool). if t then (link_of links other).peer.given ++ bytes_of answer else (link_of links other).peer.given) (apart other conn ne))) in
     λ i. record {
       steps = give_steps conn answer log i;
       given = λ other. given other i;

@@ -1,7 +1,6 @@
 -- What a script wire keeps of a connection, and of the steps.
 use Rattle.std.specs.Prelude.{ℕ, ◌<◌, ◌≤◌, ◌+◌, ◌-◌, Bool, true, false, List, [], ◌∷◌, ◌++◌, length, take, drop}
 use Rattle.std.specs.declared.option.Option.{Option}
-use Rattle.std.specs.declared.option.Option.TheVariants.{None, Some}
 use Rattle.wire_port.specs.declared.link.LastAnswer.{LastAnswer}
 use Rattle.wire_port.specs.declared.link.LastAnswer.TheVariants as answer
 use Rattle.wire_port.specs.declared.log.Mark.{Mark}

@@ -1,11 +1,9 @@
 -- A script that is played: what it tells, and what the next line does.
-use Rattle.std.specs.Prelude.{◌≡◌, ℕ, suc, Bool, true, false, List, [], ◌∷◌, ◌++◌, length, if◌then◌else◌, Result, Ok, Err}
-use Rattle.std.specs.declared.option.Option.{Option}
-use Rattle.base_types.specs.Calls.{CallPlan, after_call, fails_at}
+use Rattle.std.specs.Prelude.{◌≡◌, ℕ, Bool, true, false, List, [], ◌∷◌, ◌++◌, if◌then◌else◌}
+use Rattle.base_types.specs.Calls.{CallPlan, fails_at}
 use Rattle.base_types.specs.Counts.{raised}
 use Rattle.wire_port.specs.declared.wire.Found.{Found}
 use Rattle.wire_port.specs.declared.wire.Found.TheVariants as found
-use Rattle.wire_port.specs.declared.wire.PollFault.{PollFault}
 use Rattle.wire_port.specs.Offers.{ScriptLine, Peer, new_peer, peer_of, changed_peer}
 use Rattle.wire_port.specs.Offers.ScriptLine.{Open, Send, Drop, Room}
 use Rattle.wire_port.specs.Wires.{WireView, DoorView}
@@ -86,4 +84,3 @@ pub record IsNew (lines : List ScriptLine) (fails : List ℕ) (play : PlayView) 
   pub ports : play.ports ≡ []
   pub down : play.up ≡ false
   pub not_over : play.over ≡ false
-

@@ -1,5 +1,5 @@
 -- What holds of a script wire at all times.
-use Rattle.std.specs.Prelude.{◌≡◌, ◌≤◌, ◌<◌, ◌+◌, ◌*◌, ℕ, Bool, true, false, not, ◌==◌, List, [], ◌∷◌, ◌++◌, length, map, drop, slice_index_or, if◌then◌else◌, Vec, vec_len, vec_capacity}
+use Rattle.std.specs.Prelude.{◌≡◌, ◌≤◌, ◌<◌, ◌+◌, ◌*◌, ℕ, true, false, not, ◌==◌, List, [], ◌∷◌, ◌++◌, length, map, drop, slice_index_or, if◌then◌else◌, Vec, vec_len, vec_capacity}
 use Rattle.std.specs.List.{list_any}
 use Rattle.std.specs.declared.alloc.Global.{Global}
 use Rattle.wire_port.specs.declared.log.Mark.{Mark}
@@ -121,4 +121,3 @@ pub record IsReady (lines : List ScriptLine) (slots : SlotsView) : Type 0 where
   pub order : conns slots.waiting ≡ opened_by lines
   pub fresh : EachFresh slots.waiting
   pub fits : EachFits lines slots.waiting
-

@@ -11,12 +11,14 @@ mod play;
 mod read;
 mod ready;
 mod script;
+mod script_wire;
 mod slots;
 mod wire;
 mod words;
 
 pub use read::read_script;
 pub use script::{Script, ScriptRefusal};
+pub use script_wire::ScriptWire;
 pub use wire::{Conn, Found, Given, PollFault, Poller, Taken, Wire};
 
 /// No steps open no connection twice.

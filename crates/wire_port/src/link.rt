@@ -39,19 +39,19 @@ impl Model for Link {
     ghost Value = { LinkView };
 
     ghost view = { λ link. record {
-        peer = record {
-          conn = link.conn;
-          offered = drop link.taken link.received.items;
-          is_dropped = link.is_dropped;
-          is_shut = link.is_shut;
-          room = link.room;
-          given = link.given.items;
-        };
-        last = last_seen link.last;
-        taken = link.taken;
-        is_gone = link.is_gone;
-        offers_left = link.offers - vec_len link.received;
-      } };
+      peer = record {
+        conn = link.conn;
+        offered = drop link.taken link.received.items;
+        is_dropped = link.is_dropped;
+        is_shut = link.is_shut;
+        room = link.room;
+        given = link.given.items;
+      };
+      last = last_seen link.last;
+      taken = link.taken;
+      is_gone = link.is_gone;
+      offers_left = link.offers - vec_len link.received;
+    } };
 
     ghost invariant = { λ link. FitsLink link.received link.given link.taken link.offers };
 }

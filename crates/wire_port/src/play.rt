@@ -2,6 +2,7 @@
 ghost use Rattle.std.specs.Prelude.{◌≡◌, ◌<◌, ◌≤◌, ◌+◌, ◌++◌, ◌∷◌, [], length, map, false, true, Ok, IfOk, if◌then◌else◌, vec_len, vec_capacity};
 ghost use Rattle.std.specs.Result.{is_ok, is_err};
 ghost use Rattle.base_types.specs.Calls.{after_call};
+ghost use Rattle.base_types.specs.Counts.{HasCause};
 ghost use Rattle.wire_port.specs.Steps.{taken_from};
 ghost use Rattle.wire_port.specs.Offers.{lines_open_once, peer_of, take_answer, limited_answer};
 ghost use Rattle.wire_port.specs.Calls as c;
@@ -43,16 +44,16 @@ impl Model for Play {
     ghost Value = { PlayView };
 
     ghost view = { λ play. record {
-        lines = map line_of (drop play.played play.lines.items);
-        slots = play.slots;
-        log = play.log;
-        opened = play.opened.items;
-        calls = play.calls;
-        faults = play.faults;
-        ports = play.ports.items;
-        up = play.up;
-        over = play.over;
-      } };
+      lines = map line_of (drop play.played play.lines.items);
+      slots = play.slots;
+      log = play.log;
+      opened = play.opened.items;
+      calls = play.calls;
+      faults = play.faults;
+      ports = play.ports.items;
+      up = play.up;
+      over = play.over;
+    } };
 
     ghost invariant = { λ play. FitsPlay play.lines play.played play.log play.slots play.opened play.ports };
 }
@@ -223,6 +224,7 @@ impl Play {
         ensures wire { p.wire_of self.new ≡ p.wire_of self.old }
         ensures peers { p.peers_in self.new ≡ p.peers_in self.old }
         ensures door { p.door_of self.new ≡ record (p.door_of self.old) { ports = ports.now; up = is_ok result } }
+        ensures cause { HasCause self.old.faults self.new.faults result }
         ensures fails { is_err result ≡ p.fails_next self.old }
         ensures faults { self.new.faults ≡ p.faults_after (is_err result) self.old.faults }
         ensures calls { self.new.calls ≡ after_call self.old.calls }
@@ -249,6 +251,7 @@ impl Play {
         ensures peers { p.peers_in self.new ≡ (if is_err result then p.peers_in self.old else p.line_peers (p.peers_in self.old) self.old.lines) }
         ensures lines { self.new.lines ≡ (if is_err result then self.old.lines else p.lines_behind self.old.lines) }
         ensures door { p.door_of self.new ≡ record (p.door_of self.old) { over = c.is_end result } }
+        ensures cause { HasCause self.old.faults self.new.faults result }
         ensures fails { is_err result ≡ p.fails_next self.old }
         ensures faults { self.new.faults ≡ p.faults_after (is_err result) self.old.faults }
         ensures calls { self.new.calls ≡ after_call self.old.calls }

@@ -85,6 +85,15 @@ impl Script {
         Script { lines }
     }
 
+    // The lines, which open no connection twice.
+    pub fn into_lines(self) -> Vec<Line>
+        ensures lines { map line_of result.items ≡ self }
+        ensures once { lines_open_once self ≡ true }
+    {
+        let Script { lines } = self;
+        lines
+    }
+
     /// How many of the lines open a connection.
     pub fn opens(&self) -> usize
         ensures count { result ≡ opens_in self.now }

@@ -1,17 +1,16 @@
-use Rattle.std.proofs.Common.{◌≡◌, ◌≤◌, ◌∙◌, [], ◌∷◌, ◌++◌, ap, sym, refl, subst, length, map, true, false, List, ℕ}
+use Rattle.std.proofs.Common.{◌≡◌, ◌≤◌, ◌∙◌, ◌∷◌, ◌++◌, ap, sym, refl, subst, length, map, true, List, ℕ}
 use Rattle.wire_port.specs.declared.script.Line.{Line}
 use Rattle.wire_port.specs.declared.wire.Found.TheVariants as found
 use Rattle.wire_port.specs.Steps.Step.{Opened}
-use Rattle.wire_port.specs.Offers.{ScriptLine, Peer}
+use Rattle.wire_port.specs.Offers.{ScriptLine}
 use Rattle.wire_port.specs.Offers.ScriptLine.{Open, Send, Drop, Room}
-use Rattle.wire_port.specs.Calls.{after_named}
-use Rattle.wire_port.specs.Links.{LinkView, LogView, logged, link_offered, link_dropped, link_room}
+use Rattle.wire_port.specs.Links.{LogView, logged, link_offered, link_dropped, link_room}
 use Rattle.wire_port.specs.Scripts.{line_of}
 use Rattle.wire_port.specs.Slots.{SlotsView, link_of, changed_link, peers_of}
 use Rattle.wire_port.specs.Playing.{IsPlay}
 use Rattle.wire_port.specs.Played.{told_of, line_found, line_peers, lines_behind}
 use Rattle.wire_port.proofs.Moves.{passed}
-use Rattle.wire_port.proofs.LineMoves.{First, first_opens, open_fits, open_told, send_room, send_fits, drop_fits, room_fits, named_told, live_found, shut_found, live_peers, shut_peers}
+use Rattle.wire_port.proofs.LineMoves.{first_opens, open_fits, open_told, send_room, send_fits, drop_fits, room_fits, named_told, live_found, shut_found, live_peers, shut_peers}
 use Rattle.wire_port.proofs.play.next_line.Goals as goal
 
 -- ---- Send
@@ -118,5 +117,5 @@ pub returns-in-Open-clause-play : goal.returns-in-Open-clause-play
 returns-in-Open-clause-play c =
     subst (λ (ls : List ScriptLine). IsPlay (lines_behind ls) c.opened.new.self c.open.new.self.links c.open.new.self.waiting c.push_opened.new.opened.items) (sym (ap (map line_of) (c.in-Some.ensures.cases.0 ∙ ap (λ (l : Line). l ∷ c.in-Some.field-0-1.now) c.in-Open.is) ∙ ap (λ n. Open n c.in-Open.port ∷ (map line_of c.in-Some.field-0-1.now)) (sym c.from-conn.ensures)))
     (subst (λ (log : LogView). IsPlay (map line_of c.in-Some.field-0-1.now) log c.open.new.self.links c.open.new.self.waiting c.push_opened.new.opened.items) (sym c.opened.ensures)
-      (subst (λ (all : List (ℕ × ℕ)). IsPlay (map line_of c.in-Some.field-0-1.now) (logged (Opened c.from-conn.result c.in-Open.port) c.args.log.now) c.open.new.self.links c.open.new.self.waiting all) (sym c.push_opened.ensures.items)
-        (open_fits c.from-conn.result c.in-Open.port (map line_of c.in-Some.field-0-1.now) c.args.log.now c.args.slots.now c.open.new.self c.args.opened.now.items (first_opens c.from-conn.result c.in-Open.port (map line_of c.in-Some.field-0-1.now) c.args.log.now c.args.slots.now c.open.new.self c.args.opened.now.items c.open.result (subst (λ (ls : List ScriptLine). IsPlay ls c.args.log.now c.args.slots.now.links c.args.slots.now.waiting c.args.opened.now.items) (ap (map line_of) (c.in-Some.ensures.cases.0 ∙ ap (λ (l : Line). l ∷ c.in-Some.field-0-1.now) c.in-Open.is) ∙ ap (λ n. Open n c.in-Open.port ∷ (map line_of c.in-Some.field-0-1.now)) (sym c.from-conn.ensures)) c.requires.play) c.open.ensures) (subst (λ (ls : List ScriptLine). IsPlay ls c.args.log.now c.args.slots.now.links c.args.slots.now.waiting c.args.opened.now.items) (ap (map line_of) (c.in-Some.ensures.cases.0 ∙ ap (λ (l : Line). l ∷ c.in-Some.field-0-1.now) c.in-Open.is) ∙ ap (λ n. Open n c.in-Open.port ∷ (map line_of c.in-Some.field-0-1.now)) (sym c.from-conn.ensures)) c.requires.play)).1))
+    (subst (λ (all : List (ℕ × ℕ)). IsPlay (map line_of c.in-Some.field-0-1.now) (logged (Opened c.from-conn.result c.in-Open.port) c.args.log.now) c.open.new.self.links c.open.new.self.waiting all) (sym c.push_opened.ensures.items)
+    (open_fits c.from-conn.result c.in-Open.port (map line_of c.in-Some.field-0-1.now) c.args.log.now c.args.slots.now c.open.new.self c.args.opened.now.items (first_opens c.from-conn.result c.in-Open.port (map line_of c.in-Some.field-0-1.now) c.args.log.now c.args.slots.now c.open.new.self c.args.opened.now.items c.open.result (subst (λ (ls : List ScriptLine). IsPlay ls c.args.log.now c.args.slots.now.links c.args.slots.now.waiting c.args.opened.now.items) (ap (map line_of) (c.in-Some.ensures.cases.0 ∙ ap (λ (l : Line). l ∷ c.in-Some.field-0-1.now) c.in-Open.is) ∙ ap (λ n. Open n c.in-Open.port ∷ (map line_of c.in-Some.field-0-1.now)) (sym c.from-conn.ensures)) c.requires.play) c.open.ensures) (subst (λ (ls : List ScriptLine). IsPlay ls c.args.log.now c.args.slots.now.links c.args.slots.now.waiting c.args.opened.now.items) (ap (map line_of) (c.in-Some.ensures.cases.0 ∙ ap (λ (l : Line). l ∷ c.in-Some.field-0-1.now) c.in-Open.is) ∙ ap (λ n. Open n c.in-Open.port ∷ (map line_of c.in-Some.field-0-1.now)) (sym c.from-conn.ensures)) c.requires.play)).1))

@@ -1,4 +1,4 @@
-use Rattle.std.proofs.Common.{◌≡◌, map, subst, sym, List, ℕ, length, rules, arith, ◌∙◌, ap}
+use Rattle.std.proofs.Common.{map, subst, sym, List, ℕ, arith, ◌∙◌}
 use Rattle.wire_port.specs.Scripts.{line_of}
 use Rattle.wire_port.specs.Playing.{Offers}
 use Rattle.wire_port.proofs.Readying.{none_offered, front_is}

@@ -1,4 +1,4 @@
-use Rattle.std.proofs.Common.{[], arith, refl, sym, subst, ◌≡◌}
+use Rattle.std.proofs.Common.{refl}
 use Rattle.wire_port.specs.declared.log.Mark.TheVariants as mark
 use Rattle.wire_port.specs.Steps.Step.{Gone}
 use Rattle.wire_port.proofs.Logging.{fits_marked, mark_logged}

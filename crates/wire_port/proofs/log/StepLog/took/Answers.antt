@@ -13,4 +13,4 @@ pub returns : goal.returns
 returns c =
     rw (← c.self.view_is)
     (took_logged c.self.inside.marks c.push.new.marks c.self.inside.bytes c.extend_from_slice.new.self c.self.inside.room c.self.inside.byte_room c.args.conn c.args.bytes.now
-      c.self.invariant c.push.ensures.items c.push.ensures.len c.in-Ok.ensures.items c.in-Ok.ensures.len)
+    c.self.invariant c.push.ensures.items c.push.ensures.len c.in-Ok.ensures.items c.in-Ok.ensures.len)

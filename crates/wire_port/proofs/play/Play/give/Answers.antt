@@ -1,16 +1,13 @@
-use Rattle.std.proofs.Common.{◌≡◌, ◌∙◌, ap, sym, refl, subst, length, true, false, map, drop}
-use Rattle.wire_port.specs.Steps.{Step, opens, has_gone, shuts, taken_from}
-use Rattle.wire_port.specs.Steps.Step.{Shut}
-use Rattle.wire_port.specs.Offers.{Peer, take_answer, limited_answer}
-use Rattle.wire_port.specs.Calls.{IsWire, take_answered, give_answered, after_take, after_give, after_shut, peers_after_take, peers_after_give, peers_after_shut}
-use Rattle.wire_port.specs.Links.{LinkView, LogView, logged, link_after_take, link_after_give, link_shut, log_after_take, log_after_give}
+use Rattle.std.proofs.Common.{◌∙◌, ap, sym, subst, map, drop}
+use Rattle.wire_port.specs.Offers.{limited_answer}
+use Rattle.wire_port.specs.Calls.{IsWire, give_answered}
+use Rattle.wire_port.specs.Links.{LogView, link_after_give, log_after_give}
 use Rattle.wire_port.specs.Scripts.{line_of}
-use Rattle.wire_port.specs.Slots.{SlotsView, has_link, link_of, changed_link, peers_of}
+use Rattle.wire_port.specs.Slots.{SlotsView, link_of, changed_link, peers_of}
 use Rattle.wire_port.specs.Played.{told_of}
 use Rattle.wire_port.proofs.Changing.{peer_is}
-use Rattle.wire_port.proofs.Moves.{shut_now}
 use Rattle.wire_port.proofs.Fitting.{fits_changed}
-use Rattle.wire_port.proofs.Telling.{is_wire, take_fits, take_told, take_peers, give_fits, give_told, give_peers, shut_told, shut_peers}
+use Rattle.wire_port.proofs.Telling.{is_wire, give_fits, give_told, give_peers}
 use Rattle.wire_port.proofs.play.Play.give.Goals as goal
 
 pub after_give-requires : goal.after_give-requires
@@ -35,7 +32,7 @@ pub returns-clause-sound : goal.returns-clause-sound
 returns-clause-sound c =
     subst (λ (slots : SlotsView). IsWire (told_of c.after_give.new.self slots.links)) (sym c.give-answer.ensures.after)
     (subst (λ (log : LogView). IsWire (told_of log (changed_link c.args.conn (link_after_give c.args.piece.now (give_answered c.give-answer.result c.args.piece.now)) c.self.inside.slots.links))) (sym c.after_give.ensures)
-      (is_wire _ (log_after_give c.args.conn (give_answered c.give-answer.result c.args.piece.now) c.self.inside.log) (changed_link c.args.conn (link_after_give c.args.piece.now (give_answered c.give-answer.result c.args.piece.now)) c.self.inside.slots.links) c.self.inside.slots.waiting c.self.inside.opened.items (give_fits c.args.conn c.args.piece.now (give_answered c.give-answer.result c.args.piece.now) (map line_of (drop c.self.inside.played c.self.inside.lines.items)) c.self.inside.log c.self.inside.slots.links c.self.inside.slots.waiting c.self.inside.opened.items (sym (c.self.invariant.play.linked c.args.conn) ∙ (rw (← c.self.view_is) at c.requires.open.opened)) (rw (← c.self.view_is) at c.requires.open.not_gone) c.self.invariant.play).1))
+    (is_wire _ (log_after_give c.args.conn (give_answered c.give-answer.result c.args.piece.now) c.self.inside.log) (changed_link c.args.conn (link_after_give c.args.piece.now (give_answered c.give-answer.result c.args.piece.now)) c.self.inside.slots.links) c.self.inside.slots.waiting c.self.inside.opened.items (give_fits c.args.conn c.args.piece.now (give_answered c.give-answer.result c.args.piece.now) (map line_of (drop c.self.inside.played c.self.inside.lines.items)) c.self.inside.log c.self.inside.slots.links c.self.inside.slots.waiting c.self.inside.opened.items (sym (c.self.invariant.play.linked c.args.conn) ∙ (rw (← c.self.view_is) at c.requires.open.opened)) (rw (← c.self.view_is) at c.requires.open.not_gone) c.self.invariant.play).1))
 
 pub returns-clause-answer : goal.returns-clause-answer
 returns-clause-answer c = rw (← c.self.view_is) (c.give-answer.ensures.answer ∙ (λ i. limited_answer (sym (c.self.invariant.play.taken c.args.conn) i) c.args.piece.now (sym (peer_is c.self.inside.slots.links c.args.conn) i)))

@@ -1,4 +1,4 @@
-use Rattle.std.proofs.Common.{◌≡◌, ◌≤◌, ◌∙◌, List, ap, sym, subst, arith, map, drop, length}
+use Rattle.std.proofs.Common.{◌≡◌, ◌∙◌, List, ap, sym, subst, arith, map, drop, length}
 use Rattle.wire_port.specs.declared.script.Line.{Line}
 use Rattle.wire_port.specs.Scripts.{line_of}
 use Rattle.wire_port.specs.Playing.{IsPlay}

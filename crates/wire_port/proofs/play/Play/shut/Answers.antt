@@ -1,16 +1,13 @@
-use Rattle.std.proofs.Common.{◌≡◌, ◌∙◌, ap, sym, refl, subst, length, true, false, map, drop}
-use Rattle.wire_port.specs.Steps.{Step, opens, has_gone, shuts, taken_from}
+use Rattle.std.proofs.Common.{◌∙◌, ap, sym, subst, map, drop}
 use Rattle.wire_port.specs.Steps.Step.{Shut}
-use Rattle.wire_port.specs.Offers.{Peer, take_answer, limited_answer}
-use Rattle.wire_port.specs.Calls.{IsWire, take_answered, give_answered, after_take, after_give, after_shut, peers_after_take, peers_after_give, peers_after_shut}
-use Rattle.wire_port.specs.Links.{LinkView, LogView, logged, link_after_take, link_after_give, link_shut, log_after_take, log_after_give}
+use Rattle.wire_port.specs.Calls.{IsWire}
+use Rattle.wire_port.specs.Links.{LogView, logged, link_shut}
 use Rattle.wire_port.specs.Scripts.{line_of}
-use Rattle.wire_port.specs.Slots.{SlotsView, has_link, link_of, changed_link, peers_of}
+use Rattle.wire_port.specs.Slots.{SlotsView, changed_link, peers_of}
 use Rattle.wire_port.specs.Played.{told_of}
-use Rattle.wire_port.proofs.Changing.{peer_is}
 use Rattle.wire_port.proofs.Moves.{shut_now}
 use Rattle.wire_port.proofs.Fitting.{fits_changed}
-use Rattle.wire_port.proofs.Telling.{is_wire, take_fits, take_told, take_peers, give_fits, give_told, give_peers, shut_told, shut_peers}
+use Rattle.wire_port.proofs.Telling.{is_wire, shut_told, shut_peers}
 use Rattle.wire_port.proofs.play.Play.shut.Goals as goal
 
 pub shut-requires-2 : goal.shut-requires-2
@@ -35,4 +32,4 @@ pub returns-clause-sound : goal.returns-clause-sound
 returns-clause-sound c =
     subst (λ (slots : SlotsView). IsWire (told_of c.shut-2.new.self slots.links)) (sym c.shut.ensures)
     (subst (λ (log : LogView). IsWire (told_of log (changed_link c.args.conn (link_shut) c.self.inside.slots.links))) (sym c.shut-2.ensures)
-      (is_wire _ (logged (Shut c.args.conn) c.self.inside.log) (changed_link c.args.conn (link_shut) c.self.inside.slots.links) c.self.inside.slots.waiting c.self.inside.opened.items (shut_now c.args.conn (map line_of (drop c.self.inside.played c.self.inside.lines.items)) c.self.inside.log c.self.inside.slots.links c.self.inside.slots.waiting c.self.inside.opened.items (sym (c.self.invariant.play.linked c.args.conn) ∙ (rw (← c.self.view_is) at c.requires.open.opened)) (rw (← c.self.view_is) at c.requires.open.not_shut) c.self.invariant.play).1))
+    (is_wire _ (logged (Shut c.args.conn) c.self.inside.log) (changed_link c.args.conn (link_shut) c.self.inside.slots.links) c.self.inside.slots.waiting c.self.inside.opened.items (shut_now c.args.conn (map line_of (drop c.self.inside.played c.self.inside.lines.items)) c.self.inside.log c.self.inside.slots.links c.self.inside.slots.waiting c.self.inside.opened.items (sym (c.self.invariant.play.linked c.args.conn) ∙ (rw (← c.self.view_is) at c.requires.open.opened)) (rw (← c.self.view_is) at c.requires.open.not_shut) c.self.invariant.play).1))

@@ -1,8 +1,7 @@
-use Rattle.std.proofs.Common.{ap, refl, ◌∙◌, length, List}
-use Rattle.wire_port.specs.Offers.{take_answer, limited_answer}
-use Rattle.wire_port.specs.Calls.{take_answered, give_answered}
-use Rattle.wire_port.specs.Links.{LinkView, link_after_take, link_after_give, link_shut, link_offered, link_dropped, link_room}
-use Rattle.wire_port.specs.Slots.{SlotsView}
+use Rattle.std.proofs.Common.{ap, ◌∙◌, List}
+use Rattle.wire_port.specs.Offers.{limited_answer}
+use Rattle.wire_port.specs.Calls.{give_answered}
+use Rattle.wire_port.specs.Links.{LinkView, link_after_give}
 use Rattle.wire_port.proofs.Places.{slot_changed, slot_is, table_stays}
 use Rattle.wire_port.proofs.Keeping as keeps
 use Rattle.wire_port.proofs.slots.Slots.give.Goals as goal
@@ -10,7 +9,7 @@ use Rattle.wire_port.proofs.slots.Slots.give.Goals as goal
 pub invariant_of-self : goal.invariant_of-self
 invariant_of-self c = (
   table_stays c.self.inside.table.items c.args.conn (link_after_give c.args.piece.now (give_answered c.give.result c.args.piece.now)) c.self.inside.links.items c.self.inside.waiting.items _ (keeps.give_keeps c.args.piece.now (give_answered c.give.result c.args.piece.now))
-  (slot_changed c.args.conn (link_after_give c.args.piece.now (give_answered c.give.result c.args.piece.now)) c.self.inside.links.items c.in-Some.place c.index_mut.result.now c.give.new.self (rw (← c.self.view_is) at c.in-Some.ensures) c.index_mut.ensures.value c.give.ensures.after) c.self.invariant.0,
+      (slot_changed c.args.conn (link_after_give c.args.piece.now (give_answered c.give.result c.args.piece.now)) c.self.inside.links.items c.in-Some.place c.index_mut.result.now c.give.new.self (rw (← c.self.view_is) at c.in-Some.ensures) c.index_mut.ensures.value c.give.ensures.after) c.self.invariant.0,
   c.self.invariant.1,
 )
 
@@ -18,7 +17,7 @@ pub returns-clause-after : goal.returns-clause-after
 returns-clause-after c =
     rw (← c.self.view_is)
     (ap (λ (links : List LinkView). record { links = links; waiting = c.self.inside.waiting.items })
-      (slot_changed c.args.conn (link_after_give c.args.piece.now (give_answered c.give.result c.args.piece.now)) c.self.inside.links.items c.in-Some.place c.index_mut.result.now c.give.new.self (rw (← c.self.view_is) at c.in-Some.ensures) c.index_mut.ensures.value c.give.ensures.after))
+    (slot_changed c.args.conn (link_after_give c.args.piece.now (give_answered c.give.result c.args.piece.now)) c.self.inside.links.items c.in-Some.place c.index_mut.result.now c.give.new.self (rw (← c.self.view_is) at c.in-Some.ensures) c.index_mut.ensures.value c.give.ensures.after))
 
 pub returns-clause-answer : goal.returns-clause-answer
 returns-clause-answer c =

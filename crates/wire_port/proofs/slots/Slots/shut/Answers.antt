@@ -1,16 +1,12 @@
-use Rattle.std.proofs.Common.{ap, refl, ◌∙◌, length, List}
-use Rattle.wire_port.specs.Offers.{take_answer, limited_answer}
-use Rattle.wire_port.specs.Calls.{take_answered, give_answered}
-use Rattle.wire_port.specs.Links.{LinkView, link_after_take, link_after_give, link_shut, link_offered, link_dropped, link_room}
-use Rattle.wire_port.specs.Slots.{SlotsView}
-use Rattle.wire_port.proofs.Places.{slot_changed, slot_is, table_stays}
-use Rattle.wire_port.proofs.Keeping as keeps
+use Rattle.std.proofs.Common.{ap, refl, List}
+use Rattle.wire_port.specs.Links.{LinkView, link_shut}
+use Rattle.wire_port.proofs.Places.{slot_changed, table_stays}
 use Rattle.wire_port.proofs.slots.Slots.shut.Goals as goal
 
 pub invariant_of-self : goal.invariant_of-self
 invariant_of-self c = (
   table_stays c.self.inside.table.items c.args.conn (link_shut) c.self.inside.links.items c.self.inside.waiting.items _ (λ _. refl)
-  (slot_changed c.args.conn (link_shut) c.self.inside.links.items c.in-Some.place c.index_mut.result.now c.shut.new.self (rw (← c.self.view_is) at c.in-Some.ensures) c.index_mut.ensures.value c.shut.ensures) c.self.invariant.0,
+      (slot_changed c.args.conn (link_shut) c.self.inside.links.items c.in-Some.place c.index_mut.result.now c.shut.new.self (rw (← c.self.view_is) at c.in-Some.ensures) c.index_mut.ensures.value c.shut.ensures) c.self.invariant.0,
   c.self.invariant.1,
 )
 
@@ -18,4 +14,4 @@ pub returns : goal.returns
 returns c =
     rw (← c.self.view_is)
     (ap (λ (links : List LinkView). record { links = links; waiting = c.self.inside.waiting.items })
-      (slot_changed c.args.conn (link_shut) c.self.inside.links.items c.in-Some.place c.index_mut.result.now c.shut.new.self (rw (← c.self.view_is) at c.in-Some.ensures) c.index_mut.ensures.value c.shut.ensures))
+    (slot_changed c.args.conn (link_shut) c.self.inside.links.items c.in-Some.place c.index_mut.result.now c.shut.new.self (rw (← c.self.view_is) at c.in-Some.ensures) c.index_mut.ensures.value c.shut.ensures))
