@@ -13,6 +13,8 @@ mod ready;
 mod script;
 mod script_wire;
 mod slots;
+#[cfg(test)]
+mod tests;
 mod wire;
 mod words;
 
