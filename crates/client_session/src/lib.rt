@@ -77,3 +77,6 @@ pub fn replies_are_short()
     ensures messages { MessagesReplyShort }
     ensures letters { LettersReplyShort }
 {}
+
+#[cfg(test)]
+mod tests;
