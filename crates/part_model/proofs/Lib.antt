@@ -2,6 +2,7 @@ pub mod Bypass
 pub mod PackLaws
 pub mod MaskLaws
 pub mod PlaceLaws
+pub mod NameIndexLaws
 pub mod ResetLaws
 pub mod NumberLaws
 pub mod PartLaws

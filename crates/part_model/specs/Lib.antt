@@ -1,4 +1,5 @@
 pub mod Digits
+pub mod NameIndexes
 pub mod Parts
 pub mod Plans
 pub mod Demo

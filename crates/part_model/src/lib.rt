@@ -9,6 +9,7 @@ ghost use Rattle.part_model.specs.Sound.{PartsAreSound};
 ghost use Rattle.part_model.specs.Demo.{demo_plan, demo_part};
 
 mod codes;
+mod name_index;
 mod names;
 mod part;
 mod patterns;

@@ -1,15 +1,17 @@
 // Which plans are refused, and the first cause.
-ghost use Rattle.std.specs.Prelude.{◌≡◌, ◌≤◌, ◌<◌, ◌-◌, ◌^◌, not, ◌||◌, [], length, map, codes, if◌then◌else◌, IfOk, IfErr, None};
+ghost use Rattle.std.specs.Prelude.{ℕ, List, ◌≡◌, ◌≤◌, ◌<◌, ◌-◌, ◌^◌, not, ◌||◌, [], length, map, codes, if◌then◌else◌, IfOk, IfErr, None};
 ghost use Rattle.std.specs.List.{list_any};
+ghost use Rattle.part_model.specs.NameIndexes as indexes;
 ghost use Rattle.part_model.specs.Parts as parts;
 ghost use Rattle.part_model.specs.Plans as plans;
 
+use crate::name_index::NameIndex;
 use crate::names::{is_listed, same_name, spelled};
 use crate::plan::{Access, Opcode, PartPlan, PartRefusal, Pattern, PlanRefusal};
 use crate::registers::{DataRegister, length_named, mention};
 use crate::{Digit, Field};
 use base_types::Text;
-use std::alloc::Global;
+use std::alloc::{AllocError, Global};
 
 fn refuse(cause: u8, field: Field) -> Option<PlanRefusal>
     ensures { result ≡ plans.refuse cause field }
@@ -148,23 +150,22 @@ pub fn has_opcode(opcodes: &[Opcode], name: &[u8]) -> bool
     false
 }
 
-// Whether a name is one of the opcodes'.
-fn is_opcode(name: &[u8], opcodes: &[Opcode]) -> bool
-    ensures { result ≡ plans.is_listed name.now (map (λ opcode. opcode.name) opcodes.now) }
+// The names of the opcodes.
+fn opcode_names(alloc: Global, opcodes: &[Opcode]) -> Result<NameIndex<'_, ()>, AllocError>
+    ensures { IfOk result (indexes.Lists (map (λ opcode. opcode.name) opcodes.now)) }
 {
+    let mut names = NameIndex::new(alloc);
     for opcode in opcodes {
-        if same_name(name, spelled(&opcode.name)) {
-            return true;
-        }
+        names.add(opcode.name.as_str(), ())?;
     }
-    false
+    Ok(names)
 }
 
-fn any_without_opcode(instructions: &[Text], opcodes: &[Opcode]) -> bool
-    ensures { result ≡ list_any (λ instruction. not (plans.is_listed instruction (map (λ opcode. opcode.name) opcodes.now))) instructions.now }
+fn any_without_opcode(instructions: &[Text], opcodes: &NameIndex<'_, ()>) -> bool
+    ensures { (names : List (List ℕ)) → indexes.Lists names opcodes.now → result ≡ list_any (λ instruction. not (plans.is_listed instruction names)) instructions.now }
 {
     for instruction in instructions {
-        if !is_opcode(spelled(instruction), opcodes) {
+        if opcodes.find(instruction.as_str()).is_none() {
             return true;
         }
     }
@@ -181,7 +182,13 @@ fn differs(known: Option<u32>, stated: Option<u32>) -> bool
 }
 
 // The first cause in one access.
-fn access_refusal(plan: &PartPlan, known: &[DataRegister], access: &Access) -> Option<PlanRefusal>
+fn access_refusal(
+    plan: &PartPlan,
+    opcodes: &NameIndex<'_, ()>,
+    known: &[DataRegister],
+    access: &Access,
+) -> Option<PlanRefusal>
+    requires { indexes.Lists (map (λ opcode. opcode.name) plan.now.opcodes) opcodes.now }
     ensures { result ≡ plans.access_refusal plan.now (parts.named_of known.now) access.now }
 {
     let length = known_length(plan, known, spelled(&access.register));
@@ -201,7 +208,7 @@ fn access_refusal(plan: &PartPlan, known: &[DataRegister], access: &Access) -> O
         return refuse(7, Field::RegisterAccess);
     }
     refuse_if(
-        any_without_opcode(access.instructions.as_slice(), plan.opcodes.as_slice()),
+        any_without_opcode(access.instructions.as_slice(), opcodes),
         9,
         Field::RegisterAccess,
     )
@@ -231,9 +238,10 @@ pub fn named_registers(alloc: Global, plan: &PartPlan) -> Result<Vec<DataRegiste
     ensures few { IfOk result (λ named. length named.items < 2 ^ 32 - 4) }
     ensures refused { IfErr result (λ refusal. plans.RefusesAs refusal (plans.accesses_refusal plan.now [] plan.now.access)) }
 {
+    let opcodes = opcode_names(alloc, plan.opcodes.as_slice())?;
     let mut known = Vec::new(alloc);
     for access in plan.access.as_slice() {
-        if let Some(refusal) = access_refusal(plan, &known, access) {
+        if let Some(refusal) = access_refusal(plan, &opcodes, &known, access) {
             return Err(refusal.into());
         }
         mention(alloc, &mut known, access)?;

@@ -1,0 +1,17 @@
+-- Names with a value each.
+use Rattle.std.specs.Prelude.{ℕ, List, ◌≡◌}
+use Rattle.std.specs.BTreeMap.{get_by}
+use Rattle.std.specs.Cmp.Lexicographic.{slice_cmp}
+use Rattle.std.specs.Ordering.{nat_cmp}
+use Rattle.std.specs.Option.{is_some}
+use Rattle.std.specs.declared.option.Option.{Option}
+use Rattle.part_model.specs.declared.name_index.NameIndex.{NameIndex}
+use Rattle.part_model.specs.Plans.{is_listed}
+
+-- the value of a name, where it has one
+abbrev pub value_of : {V : Type 0} → NameIndex V → List ℕ → Option V
+value_of index name = get_by (λ key. slice_cmp nat_cmp name key.now) index.values
+
+-- the names that have a value are these
+pub record Lists {V : Type 0} (names : List (List ℕ)) (index : NameIndex V) : Type 0 where
+  pub are : (name : List ℕ) → is_some (value_of index name) ≡ is_listed name names
