@@ -1,12 +1,13 @@
 -- Names with a value each.
 use Rattle.std.specs.Prelude.{ℕ, List, ◌≡◌}
+use Rattle.std.specs.Borrow.{Bor}
 use Rattle.std.specs.BTreeMap.{get_by}
 use Rattle.std.specs.Cmp.Lexicographic.{slice_cmp}
 use Rattle.std.specs.Ordering.{nat_cmp}
-use Rattle.std.specs.Option.{is_some}
+use Rattle.std.specs.Option.{is_some, option_map}
 use Rattle.std.specs.declared.option.Option.{Option}
 use Rattle.part_model.specs.declared.name_index.NameIndex.{NameIndex}
-use Rattle.part_model.specs.Plans.{is_listed}
+use Rattle.part_model.specs.Plans.{AccessEntry, is_listed, mentioned}
 
 -- the value of a name, where it has one
 abbrev pub value_of : {V : Type 0} → NameIndex V → List ℕ → Option V
@@ -15,3 +16,7 @@ value_of index name = get_by (λ key. slice_cmp nat_cmp name key.now) index.valu
 -- the names that have a value are these
 pub record Lists {V : Type 0} (names : List (List ℕ)) (index : NameIndex V) : Type 0 where
   pub are : (name : List ℕ) → is_some (value_of index name) ≡ is_listed name names
+
+-- the register that accesses name first for an instruction is its value
+pub record Mentions (accesses : List AccessEntry) (index : NameIndex (Bor (List ℕ))) : Type 0 where
+  pub is : (instruction : List ℕ) → option_map (λ name. name.now) (value_of index instruction) ≡ mentioned accesses instruction

@@ -28,18 +28,6 @@ pub fn copy_name(alloc: Global, name: &Text) -> Result<Text, AllocError>
     Ok(Text::from_string(string))
 }
 
-// Whether a name is among these.
-pub fn is_listed(name: &[u8], names: &[Text]) -> bool
-    ensures { result ≡ plans.is_listed name.now names.now }
-{
-    for other in names {
-        if same_name(name, spelled(other)) {
-            return true;
-        }
-    }
-    false
-}
-
 // Whether the standard names a register so.
 pub fn is_standard(name: &[u8]) -> bool
     ensures { result ≡ plans.is_listed name.now plans.standard_names }

@@ -6,7 +6,7 @@ ghost use Rattle.part_model.specs.Parts as parts;
 ghost use Rattle.part_model.specs.Plans as plans;
 
 use crate::name_index::NameIndex;
-use crate::names::{is_listed, same_name, spelled};
+use crate::names::{same_name, spelled};
 use crate::plan::{Access, Opcode, PartPlan, PartRefusal, Pattern, PlanRefusal};
 use crate::registers::{DataRegister, length_named, mention};
 use crate::{Digit, Field};

@@ -1,11 +1,13 @@
 // The data registers of a plan, by number: 0 BYPASS, 1 BOUNDARY, 2 and 3 DEVICE_ID by IDCODE and by USERCODE, and from 4 on the named
 // registers in the order of their first mention.
-ghost use Rattle.std.specs.Prelude.{◌≡◌, ◌≤◌, ◌<◌, ◌+◌, ◌-◌, ◌^◌, [], ◌∷◌, length, codes, true, ◌||◌, if◌then◌else◌, OnOk, IfOk};
-ghost use Rattle.std.specs.Option.{option_map};
+ghost use Rattle.std.specs.Prelude.{◌≡◌, ℕ, List, ◌≤◌, ◌<◌, ◌+◌, ◌-◌, ◌^◌, [], ◌∷◌, length, codes, true, ◌||◌, if◌then◌else◌, OnOk, IfOk};
+ghost use Rattle.std.specs.Option.{option_map, option_or};
+ghost use Rattle.part_model.specs.NameIndexes as indexes;
 ghost use Rattle.part_model.specs.Parts as parts;
 ghost use Rattle.part_model.specs.Plans as plans;
 
-use crate::names::{copy_name, is_listed, is_standard, same_name, spelled};
+use crate::name_index::NameIndex;
+use crate::names::{copy_name, is_standard, same_name, spelled};
 use crate::plan::Access;
 use base_types::Text;
 use std::alloc::{AllocError, Global};
@@ -97,16 +99,28 @@ pub fn mention(
     Ok(())
 }
 
-// The register that an access names first for an instruction.
-fn mentioned<'a>(accesses: &'a [Access], instruction: &[u8]) -> Option<&'a Text>
-    ensures { option_map (λ name. name.now) result ≡ plans.mentioned accesses.now instruction.now }
+// The register of an access, for those of its instructions that have none yet.
+fn add_access<'a>(index: &mut NameIndex<'a, &'a Text>, access: &'a Access) -> Result<(), AllocError>
+    ensures { OnOk result ((instruction : List ℕ) → option_map (λ name. name.now) (indexes.value_of index.new instruction) ≡ option_or (option_map (λ name. name.now) (indexes.value_of index.old instruction)) (plans.mentioned (access.now ∷ []) instruction)) }
 {
-    for access in accesses {
-        if is_listed(instruction, access.instructions.as_slice()) {
-            return Some(&access.register);
-        }
+    for instruction in access.instructions.as_slice() {
+        index.add(instruction.as_str(), &access.register)?;
     }
-    None
+    Ok(())
+}
+
+// The register that an access names first, for each instruction.
+pub fn mentioned<'a>(
+    alloc: Global,
+    accesses: &'a [Access],
+) -> Result<NameIndex<'a, &'a Text>, AllocError>
+    ensures { IfOk result (indexes.Mentions accesses.now) }
+{
+    let mut index = NameIndex::new(alloc);
+    for access in accesses {
+        add_access(&mut index, access)?;
+    }
+    Ok(index)
 }
 
 // The register of an instruction that no access names.
@@ -158,15 +172,18 @@ fn device_id(instruction: &[u8]) -> u32
     }
 }
 
-// The register that an instruction selects.
-pub fn register_for(accesses: &[Access], named: &[DataRegister], instruction: &[u8]) -> u32
-    requires few { length named.now < 2 ^ 32 - 4 }
-    requires named { parts.named_of named.now ≡ plans.named_registers accesses.now }
-    ensures is { parts.numbered result ≡ plans.register_for accesses.now instruction.now }
-    ensures within { result < 4 + length named.now }
+// The register that an instruction selects, by the registers that the accesses mention for each.
+pub fn register_for(
+    mentioned: &NameIndex<'_, &Text>,
+    named: &[DataRegister],
+    instruction: &str,
+) -> u32
+    requires { length named.now < 2 ^ 32 - 4 }
+    ensures is { (accesses : List plans.AccessEntry) → indexes.Mentions accesses mentioned.now → parts.named_of named.now ≡ plans.named_registers accesses → parts.numbered result ≡ plans.register_for accesses instruction.now }
+    ensures within { (accesses : List plans.AccessEntry) → indexes.Mentions accesses mentioned.now → parts.named_of named.now ≡ plans.named_registers accesses → result < 4 + length named.now }
 {
-    match mentioned(accesses, instruction) {
-        Some(name) => register_named(named, instruction, spelled(name)),
-        None => default_register(instruction),
+    match mentioned.find(instruction) {
+        Some(name) => register_named(named, instruction.as_bytes(), spelled(name)),
+        None => default_register(instruction.as_bytes()),
     }
 }

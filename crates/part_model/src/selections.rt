@@ -10,7 +10,7 @@ use crate::codes::all_ones;
 use crate::names::{copy_name, spelled};
 use crate::patterns::CodePatterns;
 use crate::plan::{Access, Opcode};
-use crate::registers::{BYPASS, DataRegister, register_for};
+use crate::registers::{BYPASS, DataRegister, mentioned, register_for};
 use base_types::Text;
 use std::alloc::{AllocError, Global};
 
@@ -22,23 +22,19 @@ pub struct Selection {
     pub register: u32,
 }
 
-// The instruction of an opcode, with its name and its patterns of so many digits.
+// The instruction of an opcode that selects a register, with the opcode's name and its patterns of so many digits.
 fn selection_of(
     alloc: Global,
     count: u32,
     opcode: Opcode,
-    accesses: &[Access],
-    named: &[DataRegister],
+    register: u32,
 ) -> Result<Selection, AllocError>
     requires most { count ≤ 64 }
     requires lengths { list_any (plans.wrong_length count) opcode.patterns ≡ false }
     requires patterns { 0 < length opcode.patterns }
-    requires few { length named.now < 2 ^ 32 - 4 }
-    requires named { parts.named_of named.now ≡ plans.named_registers accesses.now }
-    ensures is { IfOk result (λ selection. parts.instruction_of selection ≡ plans.opcode_of accesses.now opcode) }
-    ensures within { IfOk result (λ selection. selection.register < 4 + length named.now) }
+    ensures is { IfOk result (λ selection. parts.instruction_of selection ≡ record { name = opcode.name; patterns = opcode.patterns; register = parts.numbered register }) }
+    ensures register { IfOk result (λ selection. selection.register ≡ register) }
 {
-    let register = register_for(accesses, named, spelled(&opcode.name));
     let patterns = CodePatterns::pack(alloc, count, opcode.patterns.as_slice())?;
     Ok(Selection {
         name: opcode.name,
@@ -63,9 +59,11 @@ pub fn selections(
     ensures are { IfOk result (λ found. parts.instructions_of found.items ≡ map (plans.opcode_of accesses.now) opcodes.items) }
     ensures within { IfOk result (λ found. parts.all_below (4 + length named.now) found.items ≡ true) }
 {
+    let mentioned = mentioned(alloc, accesses)?;
     let mut found = Vec::with_capacity(alloc, opcodes.len())?;
     for opcode in opcodes {
-        found.push(selection_of(alloc, count, opcode, accesses, named)?)?;
+        let register = register_for(&mentioned, named, opcode.name.as_str());
+        found.push(selection_of(alloc, count, opcode, register)?)?;
     }
     Ok(found)
 }

@@ -1,6 +1,0 @@
-use Rattle.std.proofs.Common.{◌≡◌, drop}
-use Rattle.part_model.specs.Plans.{is_listed}
-use Rattle.part_model.proofs.names.is_listed.Given as goal
-
-abbrev pub invariant-loop-other : goal.invariant-loop-other
-invariant-loop-other l = is_listed l.name (drop l.other-index l.names) ≡ is_listed l.name l.names
