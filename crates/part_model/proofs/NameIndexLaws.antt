@@ -1,12 +1,13 @@
 -- The first value of a name is kept.
-use Rattle.std.proofs.Common.{◌≡◌, ℕ, Bool, true, false, List, if◌then◌else◌, refl, sym, ap, ◌∙◌, inl, inr, bytes_eq}
+use Rattle.std.proofs.Common.{◌≡◌, ℕ, suc, ◌+◌, ◌∷◌, unwrap_or, arith, Bool, true, false, List, if◌then◌else◌, refl, sym, ap, ◌∙◌, inl, inr, bytes_eq}
 use Rattle.std.specs.declared.option.Option.{Option}
 use Rattle.std.specs.declared.option.Option.TheVariants.{None, Some}
 use Rattle.std.specs.Option.{option_or, is_some}
 use Rattle.std.specs.Map.{update}
 use Rattle.std.proofs.lemmas.Bool.{cases_Bool}
 use Rattle.std.proofs.lemmas.Cmp.{nat_list_eq_equiv}
-use Rattle.part_model.specs.Parts.{same_name}
+use Rattle.part_model.specs.Parts.{NamedRegister, same_name}
+use Rattle.part_model.specs.Plans.{place_of_name}
 use Rattle.part_model.proofs.PlaceLaws.{same_is, equal_bytes}
 
 pub swapped : (xs ys : List ℕ) → same_name xs ys ≡ same_name ys xs
@@ -39,3 +40,15 @@ first_put f name other value none = elim (cases_Bool (same_name other name)) [
   | inl same ↦ rw (equal_bytes name other, swapped name other, same) (none_gives (f other) (Some value) (ap (λ (n : List ℕ). is_some (f n)) (same_is other name same) ∙ none))
   | inr apart ↦ rw (equal_bytes name other, swapped name other, apart) (or_none (f other))
 ]
+
+-- ---- the place of a register, one step on
+
+kept_place : (test other : Bool) (old : Option ℕ) (place further : ℕ) → test ≡ other → unwrap_or (option_or old (value_if test place)) (place + 1 + further) ≡ unwrap_or old (place + (if other then 0 else suc further))
+kept_place test other (Some kept) place further same = refl
+kept_place true true None place further same = omega arith
+kept_place true false None place further same = absurd (cc same)
+kept_place false true None place further same = absurd (cc same)
+kept_place false false None place further same = omega arith
+
+pub next_place : (old : Option ℕ) (place : ℕ) (register : NamedRegister) (rest : List NamedRegister) (name : List ℕ) → unwrap_or (option_or old (value_if (same_name name register.name) place)) (place + 1 + place_of_name rest name) ≡ unwrap_or old (place + place_of_name (register ∷ rest) name)
+next_place old place register rest name = kept_place (same_name name register.name) (same_name register.name name) old place (place_of_name rest name) (swapped name register.name)

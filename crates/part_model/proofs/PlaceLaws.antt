@@ -1,5 +1,5 @@
 -- A register that an access names is a standard one or one of the named registers.
-use Rattle.std.proofs.Common.{◌≡◌, ◌==◌, nat_eq, ℕ, suc, ◌<◌, Bool, true, false, ◌&&◌, ◌||◌, if◌then◌else◌, ◌⊎◌, inl, inr, List, [], ◌∷◌, ◌++◌, length, refl, sym, subst, ap, ◌∙◌, arith}
+use Rattle.std.proofs.Common.{◌≡◌, ◌==◌, nat_eq, ℕ, suc, ◌<◌, ◌≤◌, Bool, true, false, ◌&&◌, ◌||◌, if◌then◌else◌, ◌⊎◌, inl, inr, List, [], ◌∷◌, ◌++◌, length, refl, sym, subst, ap, ◌∙◌, arith}
 use Rattle.std.specs.Cmp.Lexicographic.{pointwise}
 use Rattle.std.specs.declared.option.Option.{Option}
 use Rattle.std.specs.declared.option.Option.TheVariants.{Some}
@@ -40,6 +40,16 @@ length-named_of (register ∷ registers) = omega (arith, length-named_of registe
 
 further : (place count : ℕ) → place < count → suc place < suc count
 further place count lt = omega (arith, lt)
+
+not_further : (place count : ℕ) → place ≤ count → suc place ≤ suc count
+not_further place count le = omega (arith, le)
+
+pub place_bound : (named : List NamedRegister) (name : List ℕ) → place_of_name named name ≤ length named
+place_bound [] name = omega arith
+place_bound (register ∷ named) name = elim (cases_Bool (same_name register.name name)) [
+  | inl same ↦ rw same (omega arith)
+  | inr other ↦ rw other (not_further (place_of_name named name) (length named) (place_bound named name))
+]
 
 later : (register : NamedRegister) (named : List NamedRegister) (name : List ℕ) → same_name register.name name ≡ false → is_listed name (names_known (register ∷ named)) ≡ true → is_listed name (names_known named) ≡ true
 later register named name other is = elim (or_cases (same_name name register.name) (is_listed name (names_known named)) is) [

@@ -1,13 +1,14 @@
 -- Names with a value each.
-use Rattle.std.specs.Prelude.{ℕ, List, ◌≡◌}
+use Rattle.std.specs.Prelude.{ℕ, List, ◌≡◌, length}
 use Rattle.std.specs.Borrow.{Bor}
 use Rattle.std.specs.BTreeMap.{get_by}
 use Rattle.std.specs.Cmp.Lexicographic.{slice_cmp}
 use Rattle.std.specs.Ordering.{nat_cmp}
-use Rattle.std.specs.Option.{is_some, option_map}
+use Rattle.std.specs.Option.{is_some, option_map, unwrap_or}
 use Rattle.std.specs.declared.option.Option.{Option}
 use Rattle.part_model.specs.declared.name_index.NameIndex.{NameIndex}
-use Rattle.part_model.specs.Plans.{AccessEntry, is_listed, mentioned}
+use Rattle.part_model.specs.Parts.{NamedRegister}
+use Rattle.part_model.specs.Plans.{AccessEntry, is_listed, mentioned, place_of_name}
 
 -- the value of a name, where it has one
 abbrev pub value_of : {V : Type 0} → NameIndex V → List ℕ → Option V
@@ -20,3 +21,7 @@ pub record Lists {V : Type 0} (names : List (List ℕ)) (index : NameIndex V) : 
 -- the register that accesses name first for an instruction is its value
 pub record Mentions (accesses : List AccessEntry) (index : NameIndex (Bor (List ℕ))) : Type 0 where
   pub is : (instruction : List ℕ) → option_map (λ name. name.now) (value_of index instruction) ≡ mentioned accesses instruction
+
+-- the place of the first register of a name is its value
+pub record Places (named : List NamedRegister) (index : NameIndex ℕ) : Type 0 where
+  pub is : (name : List ℕ) → unwrap_or (value_of index name) (length named) ≡ place_of_name named name

@@ -15,6 +15,7 @@ mod part;
 mod patterns;
 mod plan;
 mod refusals;
+mod register_index;
 mod registers;
 mod reset;
 mod selections;

@@ -1,8 +1,9 @@
 // Instructions with the registers that they select.
-ghost use Rattle.std.specs.Prelude.{ℕ, ◌≡◌, ◌≤◌, ◌<◌, ◌+◌, ◌-◌, ◌^◌, true, false, length, map, IfOk, IfSome};
+ghost use Rattle.std.specs.Prelude.{ℕ, List, ◌≡◌, ◌≤◌, ◌<◌, ◌+◌, ◌-◌, ◌^◌, true, false, length, map, IfOk, IfSome};
 ghost use Rattle.std.specs.List.{list_any};
 ghost use Rattle.std.specs.Option.{option_map};
 ghost use Rattle.scan_bits.specs.Words.{bits_of};
+ghost use Rattle.part_model.specs.NameIndexes as indexes;
 ghost use Rattle.part_model.specs.Parts as parts;
 ghost use Rattle.part_model.specs.Plans as plans;
 
@@ -10,7 +11,8 @@ use crate::codes::all_ones;
 use crate::names::{copy_name, spelled};
 use crate::patterns::CodePatterns;
 use crate::plan::{Access, Opcode};
-use crate::registers::{BYPASS, DataRegister, mentioned, register_for};
+use crate::register_index::RegisterIndex;
+use crate::registers::{BYPASS, DataRegister};
 use base_types::Text;
 use std::alloc::{AllocError, Global};
 
@@ -22,19 +24,23 @@ pub struct Selection {
     pub register: u32,
 }
 
-// The instruction of an opcode that selects a register, with the opcode's name and its patterns of so many digits.
+// The instruction of an opcode, with its name and its patterns of so many digits.
 fn selection_of(
     alloc: Global,
     count: u32,
     opcode: Opcode,
-    register: u32,
+    registers: &RegisterIndex<'_>,
+    named: &[DataRegister],
 ) -> Result<Selection, AllocError>
     requires most { count ≤ 64 }
     requires lengths { list_any (plans.wrong_length count) opcode.patterns ≡ false }
     requires patterns { 0 < length opcode.patterns }
-    ensures is { IfOk result (λ selection. parts.instruction_of selection ≡ record { name = opcode.name; patterns = opcode.patterns; register = parts.numbered register }) }
-    ensures register { IfOk result (λ selection. selection.register ≡ register) }
+    requires few { length named.now < 2 ^ 32 - 4 }
+    requires places { indexes.Places (parts.named_of named.now) registers.now.places }
+    ensures is { (accesses : List plans.AccessEntry) → indexes.Mentions accesses registers.now.mentioned → parts.named_of named.now ≡ plans.named_registers accesses → IfOk result (λ selection. parts.instruction_of selection ≡ plans.opcode_of accesses opcode) }
+    ensures within { (accesses : List plans.AccessEntry) → indexes.Mentions accesses registers.now.mentioned → parts.named_of named.now ≡ plans.named_registers accesses → IfOk result (λ selection. selection.register < 4 + length named.now) }
 {
+    let register = registers.register_for(named, opcode.name.as_str());
     let patterns = CodePatterns::pack(alloc, count, opcode.patterns.as_slice())?;
     Ok(Selection {
         name: opcode.name,
@@ -59,11 +65,10 @@ pub fn selections(
     ensures are { IfOk result (λ found. parts.instructions_of found.items ≡ map (plans.opcode_of accesses.now) opcodes.items) }
     ensures within { IfOk result (λ found. parts.all_below (4 + length named.now) found.items ≡ true) }
 {
-    let mentioned = mentioned(alloc, accesses)?;
+    let registers = RegisterIndex::new(alloc, accesses, named)?;
     let mut found = Vec::with_capacity(alloc, opcodes.len())?;
     for opcode in opcodes {
-        let register = register_for(&mentioned, named, opcode.name.as_str());
-        found.push(selection_of(alloc, count, opcode, register)?)?;
+        found.push(selection_of(alloc, count, opcode, &registers, named)?)?;
     }
     Ok(found)
 }
