@@ -8,7 +8,7 @@ use Rattle.std.specs.Option.{is_some, option_map, unwrap_or}
 use Rattle.std.specs.declared.option.Option.{Option}
 use Rattle.part_model.specs.declared.name_index.NameIndex.{NameIndex}
 use Rattle.part_model.specs.Parts.{NamedRegister}
-use Rattle.part_model.specs.Plans.{AccessEntry, is_listed, mentioned, place_of_name}
+use Rattle.part_model.specs.Plans.{AccessEntry, is_listed, length_named, mentioned, place_of_name}
 
 -- the value of a name, where it has one
 abbrev pub value_of : {V : Type 0} → NameIndex V → List ℕ → Option V
@@ -17,6 +17,10 @@ value_of index name = get_by (λ key. slice_cmp nat_cmp name key.now) index.valu
 -- the names that have a value are these
 pub record Lists {V : Type 0} (names : List (List ℕ)) (index : NameIndex V) : Type 0 where
   pub are : (name : List ℕ) → is_some (value_of index name) ≡ is_listed name names
+
+-- the length of each known register is the value of its name
+pub record Lengths (known : List NamedRegister) (index : NameIndex ℕ) : Type 0 where
+  pub are : (name : List ℕ) → value_of index name ≡ length_named known name
 
 -- the register that accesses name first for an instruction is its value
 pub record Mentions (accesses : List AccessEntry) (index : NameIndex (Bor (List ℕ))) : Type 0 where

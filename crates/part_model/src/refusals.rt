@@ -8,7 +8,7 @@ ghost use Rattle.part_model.specs.Plans as plans;
 use crate::name_index::NameIndex;
 use crate::names::{same_name, spelled};
 use crate::plan::{Access, Opcode, PartPlan, PartRefusal, Pattern, PlanRefusal};
-use crate::registers::{DataRegister, length_named, mention};
+use crate::registers::{DataRegister, KnownRegisters, mention};
 use crate::{Digit, Field};
 use base_types::Text;
 use std::alloc::{AllocError, Global};
@@ -102,19 +102,20 @@ fn captures_01(digits: &[Digit]) -> bool
 }
 
 // The length that a register has before an access.
-fn known_length(plan: &PartPlan, known: &[DataRegister], name: &[u8]) -> Option<u32>
-    ensures { result ≡ plans.known_length plan.now (parts.named_of known.now) name.now }
+fn known_length(plan: &PartPlan, known: &KnownRegisters<'_>, name: &str) -> Option<u32>
+    requires { indexes.Lengths (parts.named_of known.now.registers.items) known.now.lengths }
+    ensures { result ≡ plans.known_length plan.now (parts.named_of known.now.registers.items) name.now }
 {
-    if same_name(name, b"BYPASS") {
+    if same_name(name.as_bytes(), b"BYPASS") {
         return Some(1);
     }
-    if same_name(name, b"BOUNDARY") {
+    if same_name(name.as_bytes(), b"BOUNDARY") {
         return Some(plan.boundary);
     }
-    if same_name(name, b"DEVICE_ID") {
+    if same_name(name.as_bytes(), b"DEVICE_ID") {
         return Some(32);
     }
-    length_named(known, name)
+    known.lengths.find(name)
 }
 
 fn any_other_than_usercode(instructions: &[Text]) -> bool
@@ -185,13 +186,14 @@ fn differs(known: Option<u32>, stated: Option<u32>) -> bool
 fn access_refusal(
     plan: &PartPlan,
     opcodes: &NameIndex<'_, ()>,
-    known: &[DataRegister],
+    known: &KnownRegisters<'_>,
     access: &Access,
 ) -> Option<PlanRefusal>
-    requires { indexes.Lists (map (λ opcode. opcode.name) plan.now.opcodes) opcodes.now }
-    ensures { result ≡ plans.access_refusal plan.now (parts.named_of known.now) access.now }
+    requires lengths { indexes.Lengths (parts.named_of known.now.registers.items) known.now.lengths }
+    requires opcodes { indexes.Lists (map (λ opcode. opcode.name) plan.now.opcodes) opcodes.now }
+    ensures { result ≡ plans.access_refusal plan.now (parts.named_of known.now.registers.items) access.now }
 {
-    let length = known_length(plan, known, spelled(&access.register));
+    let length = known_length(plan, known, access.register.as_str());
     if differs(length, access.length) {
         return refuse(4, Field::RegisterAccess);
     }
@@ -239,14 +241,17 @@ pub fn named_registers(alloc: Global, plan: &PartPlan) -> Result<Vec<DataRegiste
     ensures refused { IfErr result (λ refusal. plans.RefusesAs refusal (plans.accesses_refusal plan.now [] plan.now.access)) }
 {
     let opcodes = opcode_names(alloc, plan.opcodes.as_slice())?;
-    let mut known = Vec::new(alloc);
+    let mut known = KnownRegisters {
+        registers: Vec::new(alloc),
+        lengths: NameIndex::new(alloc),
+    };
     for access in plan.access.as_slice() {
         if let Some(refusal) = access_refusal(plan, &opcodes, &known, access) {
             return Err(refusal.into());
         }
         mention(alloc, &mut known, access)?;
     }
-    Ok(known)
+    Ok(known.registers)
 }
 
 // The first cause in BOUNDARY_LENGTH, and in opcodes without an identification.

@@ -7,7 +7,7 @@ ghost use Rattle.part_model.specs.Parts as parts;
 ghost use Rattle.part_model.specs.Plans as plans;
 
 use crate::name_index::NameIndex;
-use crate::names::{copy_name, is_standard, same_name, spelled};
+use crate::names::{copy_name, is_standard};
 use crate::plan::Access;
 use base_types::Text;
 use std::alloc::{AllocError, Global};
@@ -29,28 +29,19 @@ pub struct DataRegister {
     pub length: u32,
 }
 
-// Whether a register is among these.
-fn is_known(name: &[u8], known: &[DataRegister]) -> bool
-    ensures { result ≡ plans.is_listed name.now (plans.names_known (parts.named_of known.now)) }
-{
-    for register in known {
-        if same_name(name, spelled(&register.name)) {
-            return true;
-        }
-    }
-    false
+// The named registers so far, and the length of each by its name.
+#[derive(Drop)]
+pub struct KnownRegisters<'a> {
+    pub registers: Vec<DataRegister>,
+    pub lengths: NameIndex<'a, u32>,
 }
 
-// The length of a register that is known.
-pub fn length_named(known: &[DataRegister], name: &[u8]) -> Option<u32>
-    ensures { result ≡ plans.length_named (parts.named_of known.now) name.now }
+// Whether a register is among these.
+fn is_known(name: &str, known: &KnownRegisters<'_>) -> bool
+    requires { indexes.Lengths (parts.named_of known.now.registers.items) known.now.lengths }
+    ensures { result ≡ plans.is_listed name.now (plans.names_known (parts.named_of known.now.registers.items)) }
 {
-    for register in known {
-        if same_name(spelled(&register.name), name) {
-            return Some(register.length);
-        }
-    }
-    None
+    known.lengths.find(name).is_some()
 }
 
 // So many named registers have numbers of 32 bits behind the first four, with one to spare.
@@ -58,26 +49,30 @@ const MOST_NAMED: usize = 4_294_967_291;
 
 // One more access: its register joins those known, unless it is there or the standard names it. The error comes where memory is
 // wanting, or the numbers are.
-pub fn mention(
+pub fn mention<'a>(
     alloc: Global,
-    known: &mut Vec<DataRegister>,
-    access: &Access,
+    known: &mut KnownRegisters<'a>,
+    access: &'a Access,
 ) -> Result<(), AllocError>
-    requires { length known.old.items < 2 ^ 32 - 4 }
-    ensures is { OnOk result (parts.named_of known.new.items ≡ plans.named_after (parts.named_of known.old.items) (access.now ∷ [])) }
-    ensures few { OnOk result (length known.new.items < 2 ^ 32 - 4) }
+    requires few { length known.old.registers.items < 2 ^ 32 - 4 }
+    requires lengths { indexes.Lengths (parts.named_of known.old.registers.items) known.old.lengths }
+    ensures is { OnOk result (parts.named_of known.new.registers.items ≡ plans.named_after (parts.named_of known.old.registers.items) (access.now ∷ [])) }
+    ensures few { OnOk result (length known.new.registers.items < 2 ^ 32 - 4) }
+    ensures lengths { OnOk result (indexes.Lengths (parts.named_of known.new.registers.items) known.new.lengths) }
 {
-    let name = spelled(&access.register);
-    if is_standard(name) || is_known(name, known) {
+    let name = access.register.as_str();
+    if is_standard(name.as_bytes()) || is_known(name, known) {
         return Ok(());
     }
-    if known.len() >= MOST_NAMED {
+    if known.registers.len() >= MOST_NAMED {
         return Err(AllocError);
     }
+    let length = access.length.unwrap_or(0);
     let register = DataRegister {
         name: copy_name(alloc, &access.register)?,
-        length: access.length.unwrap_or(0),
+        length,
     };
-    known.push(register)?;
+    known.lengths.add(name, length)?;
+    known.registers.push(register)?;
     Ok(())
 }
