@@ -14,3 +14,4 @@ pub mod Telling
 pub mod Fitting
 pub mod LineMoves
 pub mod Readying
+pub mod Opening

@@ -8,6 +8,8 @@ mod lines;
 mod link;
 mod log;
 mod play;
+#[cfg(test)]
+mod played_tests;
 mod read;
 mod ready;
 mod script;
