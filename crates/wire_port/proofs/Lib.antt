@@ -15,3 +15,5 @@ pub mod Fitting
 pub mod LineMoves
 pub mod Readying
 pub mod Opening
+pub mod Saying
+pub mod Parting

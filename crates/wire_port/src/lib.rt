@@ -3,6 +3,7 @@
 
 ghost use Rattle.std.specs.Prelude.{◌≡◌, [], true};
 ghost use Rattle.wire_port.specs.Steps.{opens_once};
+ghost use Rattle.wire_port.specs.Laws as l;
 
 mod lines;
 mod link;
@@ -28,4 +29,25 @@ pub use wire::{Conn, Found, Given, PollFault, Poller, Taken, Wire};
 /// No steps open no connection twice.
 pub fn nothing_opens_twice()
     ensures { opens_once [] ≡ true }
+{}
+
+/// A text is a script of certain lines exactly where it is read as those lines, and is none, at a line for a cause, exactly where it is
+/// refused at that line for that cause.
+pub fn scripts_have_format()
+    ensures scripts { l.ScriptsHaveFormat }
+    ensures refusals { l.RefusalsHaveFormat }
+{}
+
+/// Every text is a script or is none, and never both. It is a script of no other lines, and is refused at no other line and for no other
+/// cause.
+pub fn scripts_are_told_apart()
+    ensures one_of_both { l.OneOfBoth }
+    ensures never_both { l.NeverBoth }
+    ensures one_script { l.OneScript }
+    ensures one_refusal { l.OneRefusal }
+{}
+
+/// The lines of a script open no connection twice.
+pub fn scripts_open_once()
+    ensures { l.ScriptsOpenOnce }
 {}
