@@ -1,10 +1,8 @@
--- The first value of a name is kept.
-use Rattle.std.proofs.Common.{◌≡◌, ℕ, suc, ◌+◌, ◌∷◌, unwrap_or, arith, Bool, true, false, List, if◌then◌else◌, refl, sym, ap, ◌∙◌, inl, inr, bytes_eq, ◌||◌, ◌++◌, []}
+-- Indexes of names, one name on.
+use Rattle.std.proofs.Common.{◌≡◌, ℕ, suc, ◌+◌, ◌∷◌, unwrap_or, arith, Bool, true, false, List, if◌then◌else◌, refl, sym, ap, ◌∙◌, ◌||◌, ◌++◌, []}
 use Rattle.std.specs.declared.option.Option.{Option}
 use Rattle.std.specs.declared.option.Option.TheVariants.{None, Some}
 use Rattle.std.specs.Option.{option_or, is_some}
-use Rattle.std.specs.Map.{update}
-use Rattle.std.proofs.lemmas.Bool.{cases_Bool}
 use Rattle.std.proofs.lemmas.List.{map-append}
 use Rattle.std.proofs.lemmas.Cmp.{nat_list_eq_equiv}
 use Rattle.part_model.specs.declared.registers.DataRegister.{DataRegister}
@@ -12,7 +10,7 @@ use Rattle.part_model.specs.declared.name_index.NameIndex.{NameIndex}
 use Rattle.part_model.specs.NameIndexes.{value_of, Lengths}
 use Rattle.part_model.specs.Parts.{NamedRegister, named_of, same_name}
 use Rattle.part_model.specs.Plans.{is_listed, names_known, length_named, place_of_name}
-use Rattle.part_model.proofs.PlaceLaws.{same_is, equal_bytes}
+use Rattle.part_model.proofs.PlaceLaws.{equal_bytes}
 
 pub swapped : (xs ys : List ℕ) → same_name xs ys ≡ same_name ys xs
 swapped xs ys = sym (equal_bytes xs ys) ∙ nat_list_eq_equiv.symm xs ys ∙ equal_bytes ys xs
@@ -20,30 +18,6 @@ swapped xs ys = sym (equal_bytes xs ys) ∙ nat_list_eq_equiv.symm xs ys ∙ equ
 -- the value where the test passes
 abbrev pub value_if : {V : Type 0} → Bool → V → Option V
 value_if test value = if test then Some value else None
-
-or_none : {V : Type 0} (old : Option V) → old ≡ option_or old None
-or_none None = refl
-or_none (Some value) = refl
-
-some_stays : {V : Type 0} (old next : Option V) → is_some old ≡ true → old ≡ option_or old next
-some_stays None next some = absurd (cc some)
-some_stays (Some value) next some = refl
-
-none_gives : {V : Type 0} (old next : Option V) → is_some old ≡ false → next ≡ option_or old next
-none_gives None next none = refl
-none_gives (Some value) next none = absurd (cc none)
-
-pub first_kept : {V : Type 0} (f : List ℕ → Option V) (name other : List ℕ) (value : V) → is_some (f name) ≡ true → f other ≡ option_or (f other) (value_if (same_name other name) value)
-first_kept f name other value some = elim (cases_Bool (same_name other name)) [
-  | inl same ↦ some_stays (f other) (value_if (same_name other name) value) (ap (λ (n : List ℕ). is_some (f n)) (same_is other name same) ∙ some)
-  | inr apart ↦ rw apart (or_none (f other))
-]
-
-pub first_put : {V : Type 0} (f : List ℕ → Option V) (name other : List ℕ) (value : V) → is_some (f name) ≡ false → update bytes_eq f name (Some value) other ≡ option_or (f other) (value_if (same_name other name) value)
-first_put f name other value none = elim (cases_Bool (same_name other name)) [
-  | inl same ↦ rw (equal_bytes name other, swapped name other, same) (none_gives (f other) (Some value) (ap (λ (n : List ℕ). is_some (f n)) (same_is other name same) ∙ none))
-  | inr apart ↦ rw (equal_bytes name other, swapped name other, apart) (or_none (f other))
-]
 
 -- ---- the lengths of the registers that are known
 

@@ -34,10 +34,7 @@ impl<'a, V: Copy + Drop> NameIndex<'a, V> {
     pub fn add(&mut self, name: &'a str, value: V) -> Result<(), AllocError>
         ensures { OnOk result ((other : List ℕ) → indexes.value_of self.new other ≡ option_or (indexes.value_of self.old other) (if parts.same_name other name.now then Some value else None)) }
     {
-        if self.values.contains_key(name) {
-            return Ok(());
-        }
-        self.values.insert(name, value)?;
+        self.values.entry(name)?.or_insert(value);
         Ok(())
     }
 }
