@@ -1,5 +1,5 @@
 // Which plans are refused, and the first cause.
-ghost use Rattle.std.specs.Prelude.{ℕ, List, ◌≡◌, ◌≤◌, ◌<◌, ◌-◌, ◌^◌, not, ◌||◌, [], length, map, codes, if◌then◌else◌, IfOk, IfErr, None};
+ghost use Rattle.std.specs.Prelude.{◌≡◌, ℕ, List, ◌<◌, ◌-◌, ◌^◌, not, ◌||◌, [], length, map, codes, if◌then◌else◌, IfOk, IfErr, None};
 ghost use Rattle.std.specs.List.{list_any};
 ghost use Rattle.part_model.specs.NameIndexes as indexes;
 ghost use Rattle.part_model.specs.Parts as parts;

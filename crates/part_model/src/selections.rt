@@ -1,5 +1,5 @@
 // Instructions with the registers that they select.
-ghost use Rattle.std.specs.Prelude.{ℕ, List, ◌≡◌, ◌≤◌, ◌<◌, ◌+◌, ◌-◌, ◌^◌, true, false, length, map, IfOk, IfSome};
+ghost use Rattle.std.specs.Prelude.{◌≡◌, ℕ, List, ◌≤◌, ◌<◌, ◌+◌, ◌-◌, ◌^◌, true, false, length, map, IfOk, IfSome};
 ghost use Rattle.std.specs.List.{list_any};
 ghost use Rattle.std.specs.Option.{option_map};
 ghost use Rattle.scan_bits.specs.Words.{bits_of};
@@ -8,7 +8,7 @@ ghost use Rattle.part_model.specs.Parts as parts;
 ghost use Rattle.part_model.specs.Plans as plans;
 
 use crate::codes::all_ones;
-use crate::names::{copy_name, spelled};
+use crate::names::copy_name;
 use crate::patterns::CodePatterns;
 use crate::plan::{Access, Opcode};
 use crate::register_index::RegisterIndex;
