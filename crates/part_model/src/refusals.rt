@@ -240,6 +240,9 @@ pub fn named_registers(alloc: Global, plan: &PartPlan) -> Result<Vec<DataRegiste
     ensures few { IfOk result (λ named. length named.items < 2 ^ 32 - 4) }
     ensures refused { IfErr result (λ refusal. plans.RefusesAs refusal (plans.accesses_refusal plan.now [] plan.now.access)) }
 {
+    if plan.access.is_empty() {
+        return Ok(Vec::new(alloc));
+    }
     let opcodes = opcode_names(alloc, plan.opcodes.as_slice())?;
     let mut known = KnownRegisters {
         registers: Vec::new(alloc),
