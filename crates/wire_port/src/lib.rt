@@ -1,8 +1,6 @@
 //! Wires: the connections of all clients, whether over sockets or played from a script.
 #![tactic(auto)]
 
-ghost use Rattle.std.specs.Prelude.{◌≡◌, [], true};
-ghost use Rattle.wire_port.specs.Steps.{opens_once};
 ghost use Rattle.wire_port.specs.Laws as l;
 
 mod lines;
@@ -25,11 +23,6 @@ pub use read::read_script;
 pub use script::{Script, ScriptRefusal};
 pub use script_wire::ScriptWire;
 pub use wire::{Conn, Found, Given, PollFault, Poller, Taken, Wire};
-
-/// No steps open no connection twice.
-pub fn nothing_opens_twice()
-    ensures { opens_once [] ≡ true }
-{}
 
 /// A text is a script of certain lines exactly where it is read as those lines, and is none, at a line for a cause, exactly where it is
 /// refused at that line for that cause.
