@@ -24,3 +24,4 @@ pub mod Sharing
 pub mod Attending
 pub mod Entering
 pub mod Closing
+pub mod Others

@@ -1,5 +1,5 @@
 -- The desk with the shared chain, as the calls of a session see it.
-use Rattle.std.specs.Prelude.{ℕ, ◌≡◌, ◌≤◌, ◌<◌, List, Bool, true, length}
+use Rattle.std.specs.Prelude.{ℕ, ◌≡◌, ◌≢◌, ◌≤◌, ◌<◌, List, Bool, true, length}
 use Rattle.std.specs.declared.option.Option.{Option}
 use Rattle.std.specs.declared.option.Option.TheVariants.{None, Some}
 use Rattle.std.specs.declared.result.Result.{Result}
@@ -23,7 +23,7 @@ use Rattle.virtual_tap.specs.Taps.{VTapState}
 use Rattle.virtual_tap.specs.Views.{TapView, StandsFor, at_capture, opened_view, closed_view}
 use Rattle.client_session.specs.declared.shift.Leg.{Leg}
 use Rattle.client_session.specs.declared.shift.Leg.TheVariants.{Made, On, Waits}
-use Rattle.client_session.specs.Turns.{Turn, advanced_turn, is_among, is_holder}
+use Rattle.client_session.specs.Turns.{Turn, advanced_turn, is_among, is_holder, without}
 use Rattle.client_session.specs.Going.{Follows, IsShut, PutsBit, ShiftsAt, WaitsAt}
 use Rattle.client_session.specs.Sessions.{DeskView, OpenScan}
 
@@ -71,6 +71,13 @@ SideFits layout grant codes (Held held holder) = holder ≡ grant → HoldsScan 
 pub record IsDesk {C : Type 0} (layout : LayoutShape) (grant : ℕ) (tap : TapView) (desk : Token (ParkedView C) (OpenView C)) : Type 0 where
   pub holds : is_holder (holder desk) grant ≡ tap.scan_open
   pub fits : SideFits layout grant tap.codes desk.side
+
+-- of the other grants nothing changed at the desk: a scan that one of them holds is as it was, none of them holds one that it did not, and
+-- they wait in the same order
+pub record KeepsOthers {C : Type 0} (grant : ℕ) (desk next : Token (ParkedView C) (OpenView C)) : Type 0 where
+  pub held : (other : ℕ) → holder desk ≡ Some other → other ≢ grant → next.side ≡ desk.side
+  pub gained : (other : ℕ) → holder next ≡ Some other → other ≢ grant → next.side ≡ desk.side
+  pub line : without grant (waiting next) ≡ without grant (waiting desk)
 
 -- a capture filled the register of the virtual TAP and opened its scan, and the grant holds the desk
 pub record Opened {C : Type 0} (layout : LayoutShape) (grant : ℕ) (waits : List ℕ) (old new : VTapState) (desk : Token (ParkedView C) (OpenView C)) (before after : Option ChainState) : Type 0 where

@@ -10,3 +10,4 @@ pub mod Places
 pub mod Stores
 pub mod Going
 pub mod Desks
+pub mod Calls

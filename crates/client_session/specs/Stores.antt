@@ -8,7 +8,9 @@ use Rattle.grant_table.specs.declared.Protocol.{Protocol}
 use Rattle.grant_table.specs.declared.Protocol.TheVariants as protocols
 use Rattle.grant_table.specs.Layouts.{LayoutShape, group_of}
 use Rattle.scan_share.specs.PrivateChains.{entries_at}
-use Rattle.virtual_tap.specs.Taps.{KeepsTap}
+use Rattle.tap_states.specs.declared.Tap.TheVariants.{TestLogicReset}
+use Rattle.virtual_tap.specs.Taps.{KeepsTap, ScansAt}
+use Rattle.virtual_tap.specs.Views.{at_capture}
 use Rattle.xvc_frame.specs.Frames.{FrameState, IsOpen, holds_shift, reply_bytes, tms_bits, tdi_bits}
 use Rattle.client_session.specs.declared.Stand.{Stand}
 use Rattle.client_session.specs.declared.input.Input.{Input}
@@ -131,7 +133,21 @@ IsBetween _ = ⊥
 
 abbrev pub AwaitsBytes : Input → Type 0
 AwaitsBytes (Xvc messages) = IsBetween messages.work
-AwaitsBytes (Bitbang letters) = letters.edge ≡ None
+AwaitsBytes (Bitbang letters) = (letters.edge ≡ None) × (letters.letters.items ≡ [])
+
+-- the next act is a rise that captures: TDO was sampled for its cycle, or it is left of a digit
+abbrev pub IsAtRise : Work → Type 0
+IsAtRise (Sampled cycles at) = Unit {0}
+IsAtRise _ = ⊥
+
+abbrev pub AwaitsChain : Input → Type 0
+AwaitsChain (Xvc messages) = IsAtRise messages.work
+AwaitsChain (Bitbang letters) = is_some letters.edge ≡ true
+
+-- each letter that is kept may add one byte to the short replies
+abbrev pub HasRoomToSay : Input → List ℕ → Type 0
+HasRoomToSay (Xvc messages) said = Unit {0}
+HasRoomToSay (Bitbang letters) said = length said + length letters.letters.items ≤ 16
 
 -- no byte is kept, no act is left, and what is replied are the short replies
 pub record IsEmpty (input : Input) : Type 0 where
@@ -146,15 +162,31 @@ pub record KeepsProgress (progress : Progress) : Type 0 where
   pub some : 1 ≤ progress.vector
   pub most : progress.vector ≤ 65536
   pub input : KeepsInput progress.vector progress.input
+  pub said : HasRoomToSay progress.input progress.said.items
   pub pending : progress.pending ≤ length (replied progress.input progress.said.items)
   pub taken : progress.taken ≡ progress.used + length (unused_of progress.input)
   pub few : progress.taken ≤ most_bytes
+
+-- while a session is open, between two acts: a scan is open exactly in the states of one, with TCK at its level, which is 0 in XVC;
+-- and while TRST is 1 the controllers are held in reset
+pub record IsInTime (progress : Progress) : Type 0 where
+  pub scans : ScansAt progress.tck progress.tap.view
+  pub low : protocol_of progress.input ≡ protocols.Xvc → progress.tck ≡ false
+  pub held : progress.trst ≡ true → progress.tap.view.state ≡ TestLogicReset
+
+-- the session waits for the chain: its next act is a rise that captures
+pub record AwaitsCapture (progress : Progress) : Type 0 where
+  pub input : AwaitsChain progress.input
+  pub capture : at_capture progress.tap.view ≡ true
+  pub tck : progress.tck ≡ false
+  pub trst : progress.trst ≡ false
 
 -- a session has begun: no scan is open, the lines are 0, and there are no bytes
 pub record HasBegun (old new : Progress) : Type 0 where
   pub uses_trst : new.uses_trst ≡ old.uses_trst
   pub vector : new.vector ≡ old.vector
   pub tap : KeepsTap old.tap new.tap
+  pub state : new.tap.view.state ≡ TestLogicReset
   pub shut : new.tap.view.scan_open ≡ false
   pub tck : new.tck ≡ false
   pub trst : new.trst ≡ false
@@ -171,8 +203,8 @@ HasEnded progress = (progress.tap.view.scan_open ≡ false) × (progress.tck ≡
 -- by how a session stands between two calls
 abbrev pub StandsSo : Stand → Progress → Type 0
 StandsSo Stand.Free progress = HasEnded progress
-StandsSo Stand.Going progress = AwaitsBytes progress.input × (progress.taken < most_bytes)
-StandsSo _ progress = Unit {0}
+StandsSo Stand.Going progress = AwaitsBytes progress.input × (progress.taken < most_bytes) × IsInTime progress
+StandsSo _ progress = AwaitsCapture progress × IsInTime progress
 
 -- what always holds of a session; of one that is spent, little
 pub record IsSession (progress : Progress) (stand : Stand) (spent : Bool) : Type 0 where

@@ -10,7 +10,7 @@ ghost use Rattle.virtual_tap.specs.Views.{at_capture};
 ghost use Rattle.client_session.specs.Turns.{Turn};
 ghost use Rattle.client_session.specs.Sessions.{DeskView};
 ghost use Rattle.client_session.specs.Going.{EndsNext, ResetsNext};
-ghost use Rattle.client_session.specs.Desks.{AbandonsScan, Attends, Closed, IsDesk, IsSound, Opened, StepsTo, cable_after, cable_of};
+ghost use Rattle.client_session.specs.Desks.{AbandonsScan, Attends, Closed, IsDesk, IsSound, KeepsOthers, Opened, StepsTo, cable_after, cable_of};
 
 use chain_model::Cable;
 use chain_token::{Queue, Token};
@@ -78,6 +78,7 @@ pub fn update<C: Cable>(
     ensures closed { IfOk result (λ next. Closed layout.now grant (waiting desk) tap.old tap.new next (C.chain (cable_of desk.side)) (C.chain (cable_of next.side))) }
     ensures whole { IfOk result (λ next. Told (C.chain (cable_of next.side)) (IsWhole layout.now)) }
     ensures same { (tap.new.grant ≡ tap.old.grant) × (tap.new.parts ≡ tap.old.parts) }
+    ensures others { IfOk result (KeepsOthers grant desk) }
     ensures mark { C.mark (cable_after result) ≡ C.mark (cable_of desk.side) }
     ensures trst { C.trst (cable_after result) ≡ C.trst (cable_of desk.side) }
     ensures cause { HasCause (C.fault_count (cable_of desk.side)) (C.fault_count (cable_after result)) result }
@@ -117,6 +118,7 @@ pub fn close<C: Cable>(
     ensures whole { IfOk result (λ next. Told (C.chain (cable_of next.side)) (IsWhole layout.now)) }
     ensures waits { IfOk result (λ next. waiting next ≡ waiting desk) }
     ensures same { (tap.new.grant ≡ tap.old.grant) × (tap.new.parts ≡ tap.old.parts) }
+    ensures others { IfOk result (KeepsOthers grant desk) }
     ensures mark { C.mark (cable_after result) ≡ C.mark (cable_of desk.side) }
     ensures trst { C.trst (cable_after result) ≡ C.trst (cable_of desk.side) }
     ensures cause { HasCause (C.fault_count (cable_of desk.side)) (C.fault_count (cable_after result)) result }
@@ -145,6 +147,7 @@ fn abandon<C: Cable>(
     ensures desk { IfOk result (IsDesk layout.now grant tap.new.view) }
     ensures whole { IfOk result (λ next. Told (C.chain (cable_of next.side)) (IsWhole layout.now)) }
     ensures same { (tap.new.grant ≡ tap.old.grant) × (tap.new.parts ≡ tap.old.parts) }
+    ensures others { IfOk result (KeepsOthers grant desk) }
     ensures mark { C.mark (cable_after result) ≡ C.mark (cable_of desk.side) }
     ensures trst { C.trst (cable_after result) ≡ C.trst (cable_of desk.side) }
     ensures cause { HasCause (C.fault_count (cable_of desk.side)) (C.fault_count (cable_after result)) result }
@@ -184,6 +187,7 @@ pub fn reset<C: Cable>(
     ensures whole { IfOk result (λ next. Told (C.chain (cable_of next.side)) (IsWhole layout.now)) }
     ensures waits { IfOk result (λ next. waiting next ≡ waiting desk) }
     ensures same { (tap.new.grant ≡ tap.old.grant) × (tap.new.parts ≡ tap.old.parts) }
+    ensures others { IfOk result (KeepsOthers grant desk) }
     ensures mark { C.mark (cable_after result) ≡ C.mark (cable_of desk.side) }
     ensures trst { C.trst (cable_after result) ≡ C.trst (cable_of desk.side) }
     ensures cause { HasCause (C.fault_count (cable_of desk.side)) (C.fault_count (cable_after result)) result }

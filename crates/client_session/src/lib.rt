@@ -8,6 +8,7 @@ ghost use Rattle.client_session.specs.Private.Event.{Took};
 ghost use Rattle.client_session.specs.Laws.{NoneWaitsByItself, MessagesReplyShort, LettersReplyShort};
 
 mod desk;
+mod halt;
 mod input;
 mod progress;
 mod session;

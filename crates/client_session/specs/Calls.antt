@@ -1,0 +1,108 @@
+-- What a call makes of a session, beside the turn that it stands for.
+use Rattle.std.specs.Prelude.{ℕ, ◌≡◌, Bool, true, false, List, [], ◌++◌, is_some}
+use Rattle.grant_table.specs.Layouts.{LayoutShape}
+use Rattle.scan_share.specs.Scans.{types_of, update_cost}
+use Rattle.virtual_tap.specs.Views.{StandsFor}
+use Rattle.client_session.specs.declared.End.{End}
+use Rattle.client_session.specs.declared.halt.Halt.{Halt}
+use Rattle.client_session.specs.declared.halt.Halt.TheVariants.{Rests, Waits, Ends}
+use Rattle.client_session.specs.declared.progress.Progress.{Progress}
+use Rattle.client_session.specs.Seats.{Seat, Next, next_in, advanced, ended, opens_next}
+use Rattle.client_session.specs.Seats.Next.{Nothing}
+use Rattle.client_session.specs.Turns.{Turn, is_among, freeing_cost, advanced_turn, advanced_turns}
+use Rattle.client_session.specs.Stores.{AwaitsBytes, AwaitsCapture, IsInTime, protocol_of, unused_of, acts_of, sampled_of, reply_of}
+use Rattle.client_session.specs.Going.{Holds}
+
+-- the session has the settings and the lines of the seat of a turn, which is going, and its virtual TAP stands for the seat's chain
+pub record ShowsTap (progress : Progress) (grant : ℕ) (turn : Turn) : Type 0 where
+  pub going : turn.seat.going ≡ true
+  pub holds : Holds grant turn
+  pub types : types_of turn.seat.chain ≡ progress.tap.parts
+  pub stands : StandsFor progress.tap.view turn.seat.chain
+  pub protocol : protocol_of progress.input ≡ turn.seat.protocol
+  pub uses_trst : progress.uses_trst ≡ turn.seat.uses_trst
+  pub vector : progress.vector ≡ turn.seat.vector
+  pub tck : progress.tck ≡ turn.seat.tck
+  pub trst : progress.trst ≡ turn.seat.trst
+
+-- and it has the seat's bytes, acts and samples, and its replies in what the peer was given and what is left to give
+pub record ShowsSeat (progress : Progress) (grant : ℕ) (given : List ℕ) (turn : Turn) : Type 0 where
+  pub tap : ShowsTap progress grant turn
+  pub unused : unused_of progress.input ≡ turn.seat.unused
+  pub used : progress.used ≡ turn.seat.used
+  pub acts : acts_of progress.input ≡ turn.seat.acts
+  pub sampled : sampled_of progress.input progress.tap.view.tdo ≡ turn.seat.sampled
+  pub replies : given ++ reply_of progress ≡ turn.seat.replies
+
+-- bytes came to the seat that the session has not taken yet; its peer was given all replies
+pub record ShowsFed (progress : Progress) (piece : List ℕ) (grant : ℕ) (given : List ℕ) (turn : Turn) : Type 0 where
+  pub tap : ShowsTap progress grant turn
+  pub unused : unused_of progress.input ++ piece ≡ turn.seat.unused
+  pub used : progress.used ≡ turn.seat.used
+  pub acts : turn.seat.acts ≡ []
+  pub sampled : turn.seat.sampled ≡ []
+  pub replies : given ≡ turn.seat.replies
+
+-- the next step of the turn ends the session so
+pub record EndsSo (end : End) (progress : Progress) (grant : ℕ) (given : List ℕ) (turn : Turn) : Type 0 where
+  pub tap : ShowsTap progress grant turn
+  pub replies : given ++ reply_of progress ≡ turn.seat.replies
+  pub opens : opens_next turn.seat ≡ false
+  pub ends : advanced turn.seat ≡ ended end turn.seat
+  pub cost : (width : ℕ) → freeing_cost turn.seat.acts width ≡ update_cost width
+
+-- no act is left, and no message is whole
+pub record RestsThere (progress : Progress) (grant : ℕ) (given : List ℕ) (turn : Turn) : Type 0 where
+  pub shows : ShowsSeat progress grant given turn
+  pub none : turn.seat.acts ≡ []
+  pub nothing : next_in turn.seat.protocol turn.seat ≡ Nothing
+
+-- the next act captures, which it may not yet
+pub record WaitsThere (layout : LayoutShape) (progress : Progress) (grant : ℕ) (given : List ℕ) (turn : Turn) : Type 0 where
+  pub shows : ShowsSeat progress grant given turn
+  pub rests : advanced_turn layout grant turn ≡ turn
+  pub waits : is_among grant turn.waiting ≡ true
+
+-- what the session came to, beside its turn
+abbrev pub HaltsAt : Halt → LayoutShape → Progress → (grant : ℕ) → (given : List ℕ) → Turn → Type 0
+HaltsAt Rests layout progress grant given turn = RestsThere progress grant given turn
+HaltsAt Waits layout progress grant given turn = WaitsThere layout progress grant given turn
+HaltsAt (Ends end) layout progress grant given turn = EndsSo end progress grant given turn
+
+-- and over every cable
+abbrev pub HaltsWell : Halt → Progress → Type 0
+HaltsWell Rests progress = AwaitsBytes progress.input
+HaltsWell Waits progress = AwaitsCapture progress
+HaltsWell (Ends end) progress = Unit {0}
+
+-- it waits
+abbrev pub is_waiting : Halt → Bool
+is_waiting Waits = true
+is_waiting _ = false
+
+-- what no act of a session changes: whose it is, and its settings
+pub record KeepsSettings (old new : Progress) : Type 0 where
+  pub grant : new.tap.grant ≡ old.tap.grant
+  pub parts : new.tap.parts ≡ old.tap.parts
+  pub protocol : protocol_of new.input ≡ protocol_of old.input
+  pub uses_trst : new.uses_trst ≡ old.uses_trst
+  pub vector : new.vector ≡ old.vector
+
+-- a session that may go on: it is in time, and the register of its virtual TAP is there
+pub record MayGoOn (progress : Progress) : Type 0 where
+  pub time : IsInTime progress
+  pub there : is_some progress.tap.view.register ≡ true
+
+-- steps of the grant lead from a turn to one of which this holds, within the same session
+pub record GoesOn (layout : LayoutShape) (grant : ℕ) (P : Turn → Type 0) (turn : Turn) : Type 0 where
+  pub next : Turn
+  pub steps : ℕ
+  pub made : next ≡ advanced_turns steps layout grant turn
+  pub gone : next.seat.gone ≡ turn.seat.gone
+  pub past : next.seat.past ≡ turn.seat.past
+  pub there : P next
+
+-- the replies of a going seat are those that the peer was given and those that are left to give
+pub record HasReplied (progress : Progress) (given : List ℕ) (turn : Turn) : Type 0 where
+  pub going : turn.seat.going ≡ true
+  pub replies : given ++ reply_of progress ≡ turn.seat.replies
