@@ -1,17 +1,26 @@
 -- What a call makes of a session, beside the turn that it stands for.
-use Rattle.std.specs.Prelude.{ℕ, ◌≡◌, Bool, true, false, List, [], ◌++◌, is_some}
-use Rattle.grant_table.specs.Layouts.{LayoutShape}
+use Rattle.std.specs.Prelude.{ℕ, ◌≡◌, Bool, true, false, List, [], ◌∷◌, ◌++◌, is_some}
+use Rattle.std.specs.declared.option.Option.{Option}
+use Rattle.std.specs.declared.option.Option.TheVariants.{None, Some}
+use Rattle.chain_model.specs.Chains.{ChainState}
+use Rattle.chain_token.specs.declared.token.Token.{Token}
+use Rattle.grant_table.specs.Layouts.{LayoutShape, group_of}
+use Rattle.scan_share.specs.Views.{ParkedView, OpenView}
 use Rattle.scan_share.specs.Scans.{types_of, update_cost}
 use Rattle.virtual_tap.specs.Views.{StandsFor}
 use Rattle.client_session.specs.declared.End.{End}
+use Rattle.client_session.specs.declared.Stop.{Stop}
 use Rattle.client_session.specs.declared.halt.Halt.{Halt}
 use Rattle.client_session.specs.declared.halt.Halt.TheVariants.{Rests, Waits, Ends}
 use Rattle.client_session.specs.declared.progress.Progress.{Progress}
+use Rattle.client_session.specs.Acts.{Act}
 use Rattle.client_session.specs.Seats.{Seat, Next, next_in, advanced, ended, opens_next}
 use Rattle.client_session.specs.Seats.Next.{Nothing}
 use Rattle.client_session.specs.Turns.{Turn, is_among, freeing_cost, advanced_turn, advanced_turns}
-use Rattle.client_session.specs.Stores.{AwaitsBytes, AwaitsCapture, IsInTime, protocol_of, unused_of, acts_of, sampled_of, reply_of}
-use Rattle.client_session.specs.Going.{Holds}
+use Rattle.client_session.specs.Stores.{AwaitsBytes, AwaitsCapture, HasEnded, IsInTime, protocol_of, unused_of, acts_of, sampled_of, reply_of}
+use Rattle.client_session.specs.Going.{Follows, Holds}
+use Rattle.client_session.specs.Sessions.{DeskView, SessionView, Shows, stop_of}
+use Rattle.client_session.specs.Desks.{desk_of}
 
 -- the session has the settings and the lines of the seat of a turn, which is going, and its virtual TAP stands for the seat's chain
 pub record ShowsTap (progress : Progress) (grant : ℕ) (turn : Turn) : Type 0 where
@@ -43,6 +52,15 @@ pub record ShowsFed (progress : Progress) (piece : List ℕ) (grant : ℕ) (give
   pub sampled : turn.seat.sampled ≡ []
   pub replies : given ≡ turn.seat.replies
 
+-- one act is left to the seat, for which the session has used its letter
+pub record IsToAct (act : Act) (progress : Progress) (grant : ℕ) (given : List ℕ) (turn : Turn) : Type 0 where
+  pub tap : ShowsTap progress grant turn
+  pub unused : unused_of progress.input ≡ turn.seat.unused
+  pub used : progress.used ≡ turn.seat.used
+  pub acts : turn.seat.acts ≡ act ∷ []
+  pub sampled : turn.seat.sampled ≡ []
+  pub replies : given ++ reply_of progress ≡ turn.seat.replies
+
 -- the next step of the turn ends the session so
 pub record EndsSo (end : End) (progress : Progress) (grant : ℕ) (given : List ℕ) (turn : Turn) : Type 0 where
   pub tap : ShowsTap progress grant turn
@@ -69,6 +87,15 @@ HaltsAt Rests layout progress grant given turn = RestsThere progress grant given
 HaltsAt Waits layout progress grant given turn = WaitsThere layout progress grant given turn
 HaltsAt (Ends end) layout progress grant given turn = EndsSo end progress grant given turn
 
+-- lines were set: the session waits before their rise, or no act is left
+abbrev pub LinesTo : (waits : Bool) → LayoutShape → Progress → (grant : ℕ) → (given : List ℕ) → Turn → Type 0
+LinesTo true layout progress grant given turn = WaitsThere layout progress grant given turn
+LinesTo false layout progress grant given turn = ShowsSeat progress grant given turn
+
+abbrev pub LinesWell : (waits : Bool) → Progress → Type 0
+LinesWell true progress = AwaitsCapture progress
+LinesWell false progress = acts_of progress.input ≡ []
+
 -- and over every cable
 abbrev pub HaltsWell : Halt → Progress → Type 0
 HaltsWell Rests progress = AwaitsBytes progress.input
@@ -88,13 +115,21 @@ pub record KeepsSettings (old new : Progress) : Type 0 where
   pub uses_trst : new.uses_trst ≡ old.uses_trst
   pub vector : new.vector ≡ old.vector
 
+-- an act of a letter leaves the letters and the replies
+pub record KeepsLetters (old new : Progress) : Type 0 where
+  pub unused : unused_of new.input ≡ unused_of old.input
+  pub used : new.used ≡ old.used
+  pub taken : new.taken ≡ old.taken
+  pub said : new.said ≡ old.said
+  pub pending : new.pending ≡ old.pending
+
 -- a session that may go on: it is in time, and the register of its virtual TAP is there
 pub record MayGoOn (progress : Progress) : Type 0 where
   pub time : IsInTime progress
   pub there : is_some progress.tap.view.register ≡ true
 
--- steps of the grant lead from a turn to one of which this holds, within the same session
-pub record GoesOn (layout : LayoutShape) (grant : ℕ) (P : Turn → Type 0) (turn : Turn) : Type 0 where
+-- steps of the grant come to a turn of which this holds, within the same session
+pub record ComesTo (layout : LayoutShape) (grant : ℕ) (P : Turn → Type 0) (turn : Turn) : Type 0 where
   pub next : Turn
   pub steps : ℕ
   pub made : next ≡ advanced_turns steps layout grant turn
@@ -106,3 +141,35 @@ pub record GoesOn (layout : LayoutShape) (grant : ℕ) (P : Turn → Type 0) (tu
 pub record HasReplied (progress : Progress) (given : List ℕ) (turn : Turn) : Type 0 where
   pub going : turn.seat.going ≡ true
   pub replies : given ++ reply_of progress ≡ turn.seat.replies
+
+-- ---- where a call ends
+
+-- the seat once it ended so, or as it is
+abbrev pub ended_by : Option End → Seat → Seat
+ended_by None seat = seat
+ended_by (Some end) seat = ended end seat
+
+-- a session that ended, before its seat is used again: what it shows is the free seat, and the reply that is left to give
+pub record HasLeft (old new : Progress) : Type 0 where
+  pub ended : HasEnded new
+  pub unused : unused_of new.input ≡ []
+  pub used : new.used ≡ 0
+  pub acts : acts_of new.input ≡ []
+  pub sampled : (tdo : Bool) → sampled_of new.input tdo ≡ []
+  pub reply : reply_of new ≡ reply_of old
+
+-- steps of the grant lead from a turn to where it goes on no further: the desk serves it there, the session shows it, and the answer says how
+-- it stopped
+pub record ComesToStop (layout : LayoutShape) (grant : ℕ) (base_desk : DeskView) (base : Turn) (view : SessionView) (given : List ℕ) (stop : Stop) (desk : DeskView) (turn : Turn) : Type 0 where
+  pub next : Turn
+  pub steps : ℕ
+  pub made : next ≡ advanced_turns steps layout grant turn
+  pub rests : advanced_turn layout grant next ≡ next
+  pub follows : Follows layout (group_of layout.grants grant) grant base_desk base desk next
+  pub shows : Shows view (is_among grant next.waiting) next.seat given
+  pub stops : stop ≡ stop_of grant turn.seat next
+
+-- over a cable that tells its chain
+abbrev pub StopsThere : {C : Type 0} → LayoutShape → ℕ → DeskView → Turn → SessionView → List ℕ → Stop → Token (ParkedView C) (OpenView C) → Option ChainState → Turn → Type 0
+StopsThere layout grant base_desk base view given stop desk None turn = ⊥
+StopsThere layout grant base_desk base view given stop desk (Some chain) turn = ComesToStop layout grant base_desk base view given stop (desk_of layout desk chain) turn

@@ -5,7 +5,7 @@ use Rattle.std.specs.declared.option.Option.TheVariants.{None, Some}
 use Rattle.grant_table.specs.declared.Protocol.{Protocol}
 use Rattle.grant_table.specs.declared.Protocol.TheVariants.{Xvc, Bitbang}
 use Rattle.xvc_frame.specs.Messages.{want}
-use Rattle.grant_table.specs.Layouts.{LayoutShape}
+use Rattle.grant_table.specs.Layouts.{LayoutShape, group_of}
 use Rattle.part_model.specs.Parts.{DeviceType}
 use Rattle.base_types.specs.Counts.{raised}
 use Rattle.chain_model.specs.Chains.{ChainState}
@@ -17,7 +17,7 @@ use Rattle.client_session.specs.declared.Stand.{Stand}
 use Rattle.client_session.specs.declared.Stop.{Stop}
 use Rattle.client_session.specs.Acts.{Act}
 use Rattle.client_session.specs.Seats.{Seat, EndedSession, most_bytes, taken, replies_now, finished}
-use Rattle.client_session.specs.Turns.{Turn, is_among, is_holder}
+use Rattle.client_session.specs.Turns.{Turn, is_among, is_holder, gone_on}
 use Rattle.client_session.specs.Paces.{IsSeatOver}
 
 -- what a session shows: as a seat, with a virtual TAP in place of the chain, and with the reply that its peer has not yet been given
@@ -127,6 +127,33 @@ pub record Goes (layout : LayoutShape) (group : List ℕ) (grant : ℕ) (old_des
   pub untouched : (holder : ℕ) → old_desk.holder ≡ Some holder → holder ≢ grant → (new_desk.chain ≡ old_desk.chain) × (new_desk.scan ≡ old_desk.scan)
   pub made : IsWithin new_desk.chain.made (raised old_desk.chain.made (new.cost - old.cost))
   pub stops : stop ≡ stop_of grant old.seat new
+
+-- a call led from a desk and a turn to where the grant goes on no further, as the session shows it then and the call's answer says
+pub record Came (layout : LayoutShape) (grant : ℕ) (view : SessionView) (given : List ℕ) (old_desk new_desk : DeskView) (turn : Turn) (stop : Stop) : Type 0 where
+  pub shows : Shows view (is_among grant (gone_on layout grant turn).waiting) (gone_on layout grant turn).seat given
+  pub goes : Goes layout (group_of layout.grants grant) grant old_desk new_desk turn (gone_on layout grant turn) stop
+
+-- how a session stands after a call that stopped so; its peer may be gone
+abbrev pub stand_after : Stop → (gone : Bool) → Stand
+stand_after Stop.Done gone = Stand.Going
+stand_after Stop.Waits gone = if gone then Stand.Leaving else Stand.Waits
+stand_after (Stop.Ended end) gone = Stand.Free
+
+-- how many bytes the session wants next, as it shows it
+abbrev pub view_wants : SessionView → ℕ
+view_wants view = min (wanted_by view.protocol view.vector view.unused) (most_bytes - (view.used + length view.unused))
+
+-- the session waits for the chain
+abbrev pub is_in_line : Stand → Bool
+is_in_line Stand.Waits = true
+is_in_line Stand.Leaving = true
+is_in_line _ = false
+
+-- a session is open whose peer is not known to be gone
+abbrev pub is_here : Stand → Bool
+is_here Stand.Going = true
+is_here Stand.Waits = true
+is_here _ = false
 
 -- ---- over every cable
 

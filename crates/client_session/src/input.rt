@@ -1,7 +1,7 @@
 // What a session keeps of the bytes that it took.
-ghost use Rattle.std.specs.Prelude.{◌≡◌, ◌≤◌, ℕ, IfOk};
+ghost use Rattle.std.specs.Prelude.{◌≡◌, ◌≤◌, ℕ, List, Bool, [], IfOk};
 ghost use Rattle.client_session.specs.Sessions.{wanted_by};
-ghost use Rattle.client_session.specs.Stores.{AwaitsBytes, KeepsInput, IsEmpty, protocol_of, unused_of, replied};
+ghost use Rattle.client_session.specs.Stores.{AwaitsBytes, IsBetween, IsEmpty, KeepsInput, WorksAt, acts_of, held_unused, protocol_of, replied, replied_in, sampled_of, unused_of};
 
 use arrayvec::ArrayVec;
 use grant_table::Protocol;
@@ -55,6 +55,23 @@ const LEAST_MESSAGE: u64 = 8;
 /// The most letters of remote_bitbang that are taken at once.
 const MOST_LETTERS: u64 = 16;
 
+impl Messages {
+    // Forgets a message that is begun or in use; one that is replied stays.
+    fn forget(&mut self)
+        ensures between { IsBetween self.new.work }
+        ensures unused { held_unused self.new.work self.new.frame ≡ [] }
+        ensures replied { (said : List ℕ) → replied_in self.new.work self.new.frame said ≡ replied_in self.old.work self.old.frame said }
+        ensures vector { self.new.frame.vector ≡ self.old.frame.vector }
+        ensures works { WorksAt self.old.work self.old.frame → WorksAt self.new.work self.new.frame }
+    {
+        if self.work == Work::Shifted {
+            return;
+        }
+        self.frame.clear();
+        self.work = Work::Taking;
+    }
+}
+
 impl Input {
     /// No bytes of a protocol. The error comes where memory is wanting.
     pub fn empty(alloc: Global, protocol: Protocol, vector: u32) -> Result<Input, AllocError>
@@ -87,6 +104,25 @@ impl Input {
                 messages.frame.clear();
                 messages.work = Work::Taking;
             }
+            Input::Bitbang(letters) => {
+                letters.letters.clear();
+                letters.edge = None;
+            }
+        }
+    }
+
+    /// Forgets the bytes and the acts that are left; what is replied stays.
+    pub fn forget(&mut self)
+        ensures protocol { protocol_of self.new ≡ protocol_of self.old }
+        ensures unused { unused_of self.new ≡ [] }
+        ensures acts { acts_of self.new ≡ [] }
+        ensures sampled { (tdo : Bool) → sampled_of self.new tdo ≡ [] }
+        ensures awaits { AwaitsBytes self.new }
+        ensures replied { (said : List ℕ) → replied self.new said ≡ replied self.old said }
+        ensures keeps { (vector : ℕ) → KeepsInput vector self.old → KeepsInput vector self.new }
+    {
+        match self {
+            Input::Xvc(messages) => messages.forget(),
             Input::Bitbang(letters) => {
                 letters.letters.clear();
                 letters.edge = None;

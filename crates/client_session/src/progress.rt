@@ -12,7 +12,7 @@ use grant_table::Layout;
 use virtual_tap::VTap;
 
 /// The most bytes of one session.
-const MOST_BYTES: u64 = 1 << 62;
+pub const MOST_BYTES: u64 = 1 << 62;
 
 /// How far a session has come: its virtual TAP with the lines TCK and TRST, how many bytes were used and how many taken, those that are not
 /// used yet with the acts that are left, and the replies, of which so many bytes were not given.

@@ -88,6 +88,13 @@ impl VTap {
         self.instructions.codes()
     }
 
+    /// The number of its grant.
+    pub fn grant(&self) -> usize
+        ensures { result ≡ self.now.grant }
+    {
+        self.grant
+    }
+
     /// TDO.
     pub fn tdo(&self) -> bool
         ensures { result ≡ self.now.view.tdo }
