@@ -25,3 +25,6 @@ pub mod Attending
 pub mod Entering
 pub mod Closing
 pub mod Others
+pub mod Stopping
+pub mod Calling
+pub mod Emptied

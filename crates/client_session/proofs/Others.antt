@@ -23,11 +23,11 @@ none_holds held other n e = absurd (let q : None ≡ Some other = sym n ∙ e in
 
 without_end : (grant : ℕ) (waits : List ℕ) → without grant (waits ++ grant ∷ []) ≡ without grant waits
 without_end grant [] = rw (eq-eqb grant grant refl) refl
-without_end grant (x ∷ xs) = by (not (x == grant))
+without_end grant (x ∷ xs) = by (not (x == grant)) (without_end grant xs)
   where
-    by : (t : Bool) → cond t (x ∷ without grant (xs ++ grant ∷ [])) (without grant (xs ++ grant ∷ [])) ≡ cond t (x ∷ without grant xs) (without grant xs)
-    by true = ap (λ rest. x ∷ rest) (without_end grant xs)
-    by false = without_end grant xs
+    by : (t : Bool) → without grant (xs ++ grant ∷ []) ≡ without grant xs → cond t (x ∷ without grant (xs ++ grant ∷ [])) (without grant (xs ++ grant ∷ [])) ≡ cond t (x ∷ without grant xs) (without grant xs)
+    by true more = ap (λ rest. x ∷ rest) more
+    by false more = more
 
 without_joined : (grant : ℕ) (waits : List ℕ) → without grant (with_waiting grant waits) ≡ without grant waits
 without_joined grant waits = by (is_among grant waits)
@@ -38,29 +38,26 @@ without_joined grant waits = by (is_among grant waits)
 
 without_twice : (grant : ℕ) (waits : List ℕ) → without grant (without grant waits) ≡ without grant waits
 without_twice grant [] = refl
-without_twice grant (x ∷ xs) = by (not (x == grant)) refl
+without_twice grant (x ∷ xs) = by (not (x == grant)) refl (without_twice grant xs)
   where
-    by : (t : Bool) → not (x == grant) ≡ t → without grant (cond t (x ∷ without grant xs) (without grant xs)) ≡ cond t (x ∷ without grant xs) (without grant xs)
-    by true e = rw e (ap (λ rest. x ∷ rest) (without_twice grant xs))
-    by false e = without_twice grant xs
+    by : (t : Bool) → not (x == grant) ≡ t → without grant (without grant xs) ≡ without grant xs → without grant (cond t (x ∷ without grant xs) (without grant xs)) ≡ cond t (x ∷ without grant xs) (without grant xs)
+    by true e more = rw e (ap (λ rest. x ∷ rest) more)
+    by false e more = more
 
 -- a grant that was served waits no longer
 pub not_among : (grant : ℕ) (waits : List ℕ) → is_among grant (without grant waits) ≡ false
 not_among grant [] = refl
-not_among grant (x ∷ xs) = by (x == grant) refl
+not_among grant (x ∷ xs) = by (x == grant) refl (not_among grant xs)
   where
-    by : (t : Bool) → (x == grant) ≡ t → is_among grant (cond (not t) (x ∷ without grant xs) (without grant xs)) ≡ false
-    by true e = not_among grant xs
-    by false e = rw e (not_among grant xs)
+    by : (t : Bool) → (x == grant) ≡ t → is_among grant (without grant xs) ≡ false → is_among grant (cond (not t) (x ∷ without grant xs) (without grant xs)) ≡ false
+    by true e more = more
+    by false e more = rw e more
 
 module _ {C : Type 0} (grant : ℕ) where
-  abbrev Desk : Type 0
-  Desk = Token (ParkedView C) (OpenView C)
-
-  pub others_same : (desk : Desk) → KeepsOthers grant desk desk
+  pub others_same : (desk : Token (ParkedView C) (OpenView C)) → KeepsOthers grant desk desk
   others_same desk = record { held = λ other h n. refl; gained = λ other h n. refl; line = refl }
 
-  pub others_more : (desk next last : Desk) → KeepsOthers grant desk next → KeepsOthers grant next last → KeepsOthers grant desk last
+  pub others_more : (desk next last : Token (ParkedView C) (OpenView C)) → KeepsOthers grant desk next → KeepsOthers grant next last → KeepsOthers grant desk last
   others_more desk next last a b = record {
     held = λ other h n. let same = a.held other h n in b.held other (ap holder_of same ∙ h) n ∙ same;
     gained = λ other h n. let same = b.gained other h n in same ∙ a.gained other (sym (ap holder_of same) ∙ h) n;
@@ -68,7 +65,7 @@ module _ {C : Type 0} (grant : ℕ) where
   }
 
   -- the grant's scan is closed, and the chain is free
-  pub others_freed : (desk next : Desk) → is_holder (holder desk) grant ≡ true → holder next ≡ None → waiting next ≡ waiting desk → KeepsOthers grant desk next
+  pub others_freed : (desk next : Token (ParkedView C) (OpenView C)) → is_holder (holder desk) grant ≡ true → holder next ≡ None → waiting next ≡ waiting desk → KeepsOthers grant desk next
   others_freed desk next mine free line = record {
     held = λ other h n. absurd (n (only (holder desk) grant other mine h));
     gained = λ other h n. never (none_holds (holder next) other free h);
@@ -76,7 +73,7 @@ module _ {C : Type 0} (grant : ℕ) where
   }
 
   -- the grant waits
-  pub others_waited : (desk next : Desk) → Answers desk grant (asked.Wait next) → KeepsOthers grant desk next
+  pub others_waited : (desk next : Token (ParkedView C) (OpenView C)) → Answers desk grant (asked.Wait next) → KeepsOthers grant desk next
   others_waited desk next answer = record {
     held = λ other h n. answer.1;
     gained = λ other h n. answer.1;
@@ -84,7 +81,7 @@ module _ {C : Type 0} (grant : ℕ) where
   }
 
   -- the grant opens a scan on the free chain
-  pub others_opened : (desk next : Desk) (parked : ParkedView C) (queue : List ℕ) → Answers desk grant (asked.Yours parked queue) → holder next ≡ Some grant → waiting next ≡ queue → KeepsOthers grant desk next
+  pub others_opened : (desk next : Token (ParkedView C) (OpenView C)) (parked : ParkedView C) (queue : List ℕ) → Answers desk grant (asked.Yours parked queue) → holder next ≡ Some grant → waiting next ≡ queue → KeepsOthers grant desk next
   others_opened desk next parked queue answer mine line = record {
     held = λ other h n. never (none_holds (holder desk) other (ap holder_of answer.1) h);
     gained = λ other h n. absurd (n (let q : Some grant ≡ Some other = sym mine ∙ h in let r : other ≡ grant = cc in r));

@@ -69,7 +69,7 @@ module _ (layout : LayoutShape) (grant : ℕ) where
   not_freed true = refl
   not_freed false = refl
 
-  idle_step : (turn : Turn) → Holds grant turn → advanced turn.seat ≡ turn.seat → stepped layout grant (advanced turn.seat) turn ≡ turn
+  pub idle_step : (turn : Turn) → Holds grant turn → advanced turn.seat ≡ turn.seat → stepped layout grant (advanced turn.seat) turn ≡ turn
   idle_step turn h same =
       let kept : frees turn.holder grant turn.seat ≡ false = rw h (not_freed turn.seat.chain.scan_open) in
       ap (λ s. stepped layout grant s turn) same ∙ rw kept refl

@@ -19,7 +19,7 @@ use Rattle.client_session.specs.Seats.Next.{Nothing}
 use Rattle.client_session.specs.Turns.{Turn, is_among, freeing_cost, advanced_turn, advanced_turns}
 use Rattle.client_session.specs.Stores.{AwaitsBytes, AwaitsCapture, HasEnded, IsInTime, protocol_of, unused_of, acts_of, sampled_of, reply_of}
 use Rattle.client_session.specs.Going.{Follows, Holds}
-use Rattle.client_session.specs.Sessions.{DeskView, SessionView, Shows, stop_of}
+use Rattle.client_session.specs.Sessions.{Came, DeskView, Serves, SessionView, Shows, stop_of}
 use Rattle.client_session.specs.Desks.{desk_of}
 
 -- the session has the settings and the lines of the seat of a turn, which is going, and its virtual TAP stands for the seat's chain
@@ -173,3 +173,15 @@ pub record ComesToStop (layout : LayoutShape) (grant : ℕ) (base_desk : DeskVie
 abbrev pub StopsThere : {C : Type 0} → LayoutShape → ℕ → DeskView → Turn → SessionView → List ℕ → Stop → Token (ParkedView C) (OpenView C) → Option ChainState → Turn → Type 0
 StopsThere layout grant base_desk base view given stop desk None turn = ⊥
 StopsThere layout grant base_desk base view given stop desk (Some chain) turn = ComesToStop layout grant base_desk base view given stop (desk_of layout desk chain) turn
+
+-- ---- the calls of a session
+
+-- the desk, whose cable tells its chain, serves the turn of a grant
+abbrev pub ServedBy : {C : Type 0} → LayoutShape → ℕ → Token (ParkedView C) (OpenView C) → Option ChainState → Turn → Type 0
+ServedBy layout grant desk None turn = ⊥
+ServedBy layout grant desk (Some chain) turn = Serves layout (group_of layout.grants grant) grant (desk_of layout desk chain) turn
+
+-- a call led from one desk and turn to where the grant goes on no further, by the chains that are told before and after it
+abbrev pub CameOn : {C : Type 0} → LayoutShape → ℕ → SessionView → List ℕ → (old new : Token (ParkedView C) (OpenView C)) → (before after : Option ChainState) → Turn → Stop → Type 0
+CameOn layout grant view given old new (Some before) (Some after) turn stop = Came layout grant view given (desk_of layout old before) (desk_of layout new after) turn stop
+CameOn layout grant view given old new _ _ turn stop = ⊥

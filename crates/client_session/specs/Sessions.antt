@@ -1,5 +1,5 @@
 -- What a session shows of a seat, what a desk shows of the shared chain, and what a call of the session does to both.
-use Rattle.std.specs.Prelude.{ℕ, ◌-◌, ◌^◌, ◌<◌, min, ◌≡◌, ◌≢◌, Bool, true, false, List, [], ◌∷◌, ◌++◌, drop, length, if◌then◌else◌}
+use Rattle.std.specs.Prelude.{ℕ, ◌+◌, ◌-◌, ◌^◌, ◌<◌, min, ◌≡◌, ◌≢◌, Bool, true, false, List, [], ◌∷◌, ◌++◌, drop, length, if◌then◌else◌}
 use Rattle.std.specs.declared.option.Option.{Option}
 use Rattle.std.specs.declared.option.Option.TheVariants.{None, Some}
 use Rattle.grant_table.specs.declared.Protocol.{Protocol}
@@ -148,6 +148,11 @@ abbrev pub is_in_line : Stand → Bool
 is_in_line Stand.Waits = true
 is_in_line Stand.Leaving = true
 is_in_line _ = false
+
+-- the session waits, and its peer is there
+abbrev pub is_waiting : Stand → Bool
+is_waiting Stand.Waits = true
+is_waiting _ = false
 
 -- a session is open whose peer is not known to be gone
 abbrev pub is_here : Stand → Bool

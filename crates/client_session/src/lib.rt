@@ -5,11 +5,16 @@ ghost use Rattle.std.specs.Prelude.{◌≡◌, ℕ, List, [], ◌∷◌, ◌++�
 ghost use Rattle.client_session.specs.Seats.{Seat, finished, IsFinished};
 ghost use Rattle.client_session.specs.Private.{Event, after_events};
 ghost use Rattle.client_session.specs.Private.Event.{Took};
+ghost use Rattle.client_session.specs.Sessions.{is_leaving, is_waiting, stand_after};
 ghost use Rattle.client_session.specs.Laws.{NoneWaitsByItself, MessagesReplyShort, LettersReplyShort};
 
+mod calls;
 mod desk;
+mod ending;
 mod halt;
 mod input;
+mod letters;
+mod messages;
 mod progress;
 mod session;
 mod shift;
@@ -55,6 +60,34 @@ pub enum Stand {
     Waits,
     /// The session waits, and its peer is gone.
     Leaving,
+}
+
+impl Stand {
+    // Whether a session waits that is leaving.
+    fn is_leaving(self) -> bool
+        ensures { result ≡ is_leaving self }
+    {
+        matches!(self, Stand::Leaving)
+    }
+
+    // Whether a session waits whose peer is there.
+    fn is_waiting(self) -> bool
+        ensures { result ≡ is_waiting self }
+    {
+        matches!(self, Stand::Waits)
+    }
+
+    // How a session stands after a call that stopped so; its peer may be gone.
+    fn after(stop: Stop, gone: bool) -> Stand
+        ensures { result ≡ stand_after stop gone }
+    {
+        match stop {
+            Stop::Done => Stand::Going,
+            Stop::Waits if gone => Stand::Leaving,
+            Stop::Waits => Stand::Waits,
+            Stop::Ended(_) => Stand::Free,
+        }
+    }
 }
 
 /// A seat that has gone on until it is finished has nothing left to do.
