@@ -144,9 +144,15 @@ abbrev pub AwaitsChain : Input → Type 0
 AwaitsChain (Xvc messages) = IsAtRise messages.work
 AwaitsChain (Bitbang letters) = is_some letters.edge ≡ true
 
+-- amid a `shift:` there is no short reply
+abbrev pub IsSilent : Work → List ℕ → Type 0
+IsSilent Taking said = Unit {0}
+IsSilent Shifted said = Unit {0}
+IsSilent _ said = said ≡ []
+
 -- each letter that is kept may add one byte to the short replies
 abbrev pub HasRoomToSay : Input → List ℕ → Type 0
-HasRoomToSay (Xvc messages) said = Unit {0}
+HasRoomToSay (Xvc messages) said = IsSilent messages.work said
 HasRoomToSay (Bitbang letters) said = length said + length letters.letters.items ≤ 16
 
 -- no byte is kept, no act is left, and what is replied are the short replies
@@ -167,11 +173,11 @@ pub record KeepsProgress (progress : Progress) : Type 0 where
   pub taken : progress.taken ≡ progress.used + length (unused_of progress.input)
   pub few : progress.taken ≤ most_bytes
 
--- while a session is open, between two acts: a scan is open exactly in the states of one, with TCK at its level, which is 0 in XVC;
+-- while a session is open, between two acts: a scan is open exactly in the states of one, with TCK at its level; in XVC both lines are 0;
 -- and while TRST is 1 the controllers are held in reset
 pub record IsInTime (progress : Progress) : Type 0 where
   pub scans : ScansAt progress.tck progress.tap.view
-  pub low : protocol_of progress.input ≡ protocols.Xvc → progress.tck ≡ false
+  pub low : protocol_of progress.input ≡ protocols.Xvc → (progress.tck ≡ false) × (progress.trst ≡ false)
   pub held : progress.trst ≡ true → progress.tap.view.state ≡ TestLogicReset
 
 -- the session waits for the chain: its next act is a rise that captures
