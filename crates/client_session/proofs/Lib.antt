@@ -28,3 +28,5 @@ pub mod Others
 pub mod Stopping
 pub mod Calling
 pub mod Emptied
+pub mod Edges
+pub mod LineActs

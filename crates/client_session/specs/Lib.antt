@@ -11,3 +11,4 @@ pub mod Stores
 pub mod Going
 pub mod Desks
 pub mod Calls
+pub mod Edges

@@ -14,6 +14,7 @@ mod ending;
 mod halt;
 mod input;
 mod letters;
+mod lines;
 mod messages;
 mod progress;
 mod session;
