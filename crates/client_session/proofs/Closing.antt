@@ -19,6 +19,7 @@ use Rattle.client_session.specs.Going.{EndsNext, ResetsNext, Follows, Holds, IsS
 use Rattle.client_session.specs.Desks.{AbandonsScan, Attends, Closed, IsSound, StepsTo, desk_of}
 use Rattle.client_session.proofs.Untouched.{each_kept, reset_types}
 use Rattle.client_session.proofs.Resting.{holds_step}
+use Rattle.client_session.proofs.Quietly.{still_step, still_turn}
 use Rattle.client_session.proofs.Sharing.{closes_scan, abandons_scan}
 use Rattle.client_session.proofs.Attending.{follows_quiet}
 use Rattle.client_session.proofs.Entering.{shown_as}
@@ -85,36 +86,10 @@ reset_unstaged chain = ap (λ ds. record (reset chain) { devices = ds }) (by cha
     by (d ∷ ds) = ap (λ rest. reset_device d ∷ rest) (by ds)
 
 module _ (layout : LayoutShape) (grant : ℕ) (sound : IsSound layout grant) where
-  never_both : (b : Bool) → (b && not b) ≡ false
-  never_both true = refl
-  never_both false = refl
-
-  -- a step that neither opens nor closes a scan, and leaves no scan open
-  shut_turn : (turn : Turn) → opens_next turn.seat ≡ false → Holds grant turn → turn.seat.chain.scan_open ≡ false → (advanced turn.seat).chain.scan_open ≡ false → advanced_turn layout grant turn ≡ record turn { seat = advanced turn.seat }
-  shut_turn turn opens holds shut then =
-      let kept : frees turn.holder grant (advanced turn.seat) ≡ false = (λ i. (holds ∙ shut) i && not (then i)) in
-      let as_is : advanced_turn layout grant turn ≡ stepped layout grant (advanced turn.seat) turn = rw opens refl in
-      as_is ∙ (λ i. record {
-        seat = advanced turn.seat;
-        holder = cond (kept i) None turn.holder;
-        waiting = turn.waiting;
-        joins = turn.joins;
-        cost = cond (kept i) (turn.cost + freeing_cost turn.seat.acts (scan_length_of layout grant turn.seat)) turn.cost;
-      })
-
+  -- a step that neither opens nor closes a scan, where none is open
   shut_step : (turn : Turn) → opens_next turn.seat ≡ false → Holds grant turn → turn.seat.chain.scan_open ≡ false → (advanced turn.seat).chain.scan_open ≡ false → contents_of (advanced turn.seat).chain ≡ contents_of turn.seat.chain
       → Quiet layout grant turn (record turn { seat = advanced turn.seat })
-  shut_step turn opens holds shut then contents = record {
-    steps = 1;
-    made = sym (shut_turn turn opens holds shut then);
-    holder = refl;
-    waiting = refl;
-    joins = refl;
-    cost = refl;
-    scan = then ∙ sym shut;
-    contents = contents;
-    codes = λ is_open. never (sym shut ∙ is_open);
-  }
+  shut_step turn opens holds shut then contents = still_step layout grant turn opens holds (then ∙ sym shut) contents (λ is_open. never (sym shut ∙ is_open))
 
   module _ {C : Type 0} (base_desk : DeskView) (base turn : Turn) (whole : IsWhole layout base_desk.chain) (desk : Token (ParkedView C) (OpenView C)) (old new : VTapState) (parts : new.parts ≡ old.parts) where
     -- what the turn is after an end
@@ -141,7 +116,7 @@ module _ (layout : LayoutShape) (grant : ℕ) (sound : IsSound layout grant) whe
         let contents : contents_of (advanced turn.seat).chain ≡ contents_of turn.seat.chain = ap contents_of (ends.closes ∙ chain_is) ∙ reset_contents turn.seat.chain in
         let quiet = shut_step turn ends.opens ends.holds closed_then then contents in
         let follows = follows_quiet layout grant sound.parts (group_of_laws layout (group_of layout.grants grant) sound.group_is) base_desk (desk_of layout desk chain) base turn (record turn { seat = advanced turn.seat }) quiet attends.0 in (
-          subst (Follows layout (group_of layout.grants grant) grant base_desk base (desk_of layout desk chain)) (sym (shut_turn turn ends.opens ends.holds closed_then then)) follows,
+          subst (Follows layout (group_of layout.grants grant) grant base_desk base (desk_of layout desk chain)) (sym (still_turn layout grant turn ends.opens ends.holds (then ∙ sym closed_then))) follows,
           shut_after ends (subst (StandsFor new.view) (sym chain_is) (moved turn.seat.chain ends.types ends.stands)),
         )
 
@@ -191,7 +166,7 @@ module _ (layout : LayoutShape) (grant : ℕ) (sound : IsSound layout grant) whe
         let contents : contents_of (advanced turn.seat).chain ≡ contents_of turn.seat.chain = ap contents_of resets.resets ∙ reset_contents turn.seat.chain in
         let quiet = shut_step turn resets.opens resets.holds closed_then then contents in
         let follows = follows_quiet layout grant sound.parts (group_of_laws layout (group_of layout.grants grant) sound.group_is) base_desk (desk_of layout desk chain) base turn (record turn { seat = advanced turn.seat }) quiet attends.0 in (
-          subst (Follows layout (group_of layout.grants grant) grant base_desk base (desk_of layout desk chain)) (sym (shut_turn turn resets.opens resets.holds closed_then then)) follows,
+          subst (Follows layout (group_of layout.grants grant) grant base_desk base (desk_of layout desk chain)) (sym (still_turn layout grant turn resets.opens resets.holds (then ∙ sym closed_then))) follows,
           shut_reset resets (moved turn.seat.chain resets.types resets.stands),
         )
 

@@ -28,8 +28,9 @@ use Rattle.client_session.specs.Desks.{Attends, Closed, Opened, IsSound, desk_of
 use Rattle.client_session.specs.Edges.{AfterEdge, EdgesTo, MakesEdge}
 use Rattle.client_session.proofs.Untouched.{rise_contents, rise_codes, rise_scan, rise_types, fall_contents, fall_codes, fall_types}
 use Rattle.client_session.proofs.Cycles.{no_capture}
-use Rattle.client_session.proofs.Opening.{both, not_true}
+use Rattle.client_session.proofs.Opening.{both}
 use Rattle.client_session.proofs.Resting.{as_is, holds_step, waits_still, joined as joins}
+use Rattle.client_session.proofs.Quietly.{still_step, still_turn}
 use Rattle.client_session.proofs.Sharing.{closes_scan, opens_scan, opened_turn, captured_bits}
 use Rattle.client_session.proofs.Attending.{follows_quiet}
 use Rattle.client_session.proofs.Entering.{shown_as}
@@ -48,38 +49,6 @@ ending_open state is_open h = sym (ap (λ s. ends_scan s is_open) (ending_state 
 module _ (layout : LayoutShape) (grant : ℕ) (sound : IsSound layout grant) where
   abbrev group : List ℕ
   group = group_of layout.grants grant
-
-  never_both : (b : Bool) → (b && not b) ≡ false
-  never_both true = refl
-  never_both false = refl
-
-  -- ---- a step that leaves whether a scan is open
-
-  module _ (turn : Turn) (opens : opens_next turn.seat ≡ false) (holds : Holds grant turn) (scan : (advanced turn.seat).chain.scan_open ≡ turn.seat.chain.scan_open) where
-    pub still_turn : advanced_turn layout grant turn ≡ record turn { seat = advanced turn.seat }
-    still_turn =
-        let kept : frees turn.holder grant (advanced turn.seat) ≡ false = (λ i. holds i && not (scan i)) ∙ never_both turn.seat.chain.scan_open in
-        as_is layout grant false (may_open turn.holder turn.waiting grant) turn opens refl ∙ (λ i. record {
-          seat = advanced turn.seat;
-          holder = cond (kept i) None turn.holder;
-          waiting = turn.waiting;
-          joins = turn.joins;
-          cost = cond (kept i) (turn.cost + freeing_cost turn.seat.acts (scan_length_of layout grant turn.seat)) turn.cost;
-        })
-
-    pub still_step : contents_of (advanced turn.seat).chain ≡ contents_of turn.seat.chain → (turn.seat.chain.scan_open ≡ true → code_list (advanced turn.seat).chain ≡ code_list turn.seat.chain)
-        → Quiet layout grant turn (record turn { seat = advanced turn.seat })
-    still_step contents codes = record {
-      steps = 1;
-      made = sym still_turn;
-      holder = refl;
-      waiting = refl;
-      joins = refl;
-      cost = refl;
-      scan = scan;
-      contents = contents;
-      codes = codes;
-    }
 
   -- ---- after an edge that is made
 
@@ -104,8 +73,8 @@ module _ (layout : LayoutShape) (grant : ℕ) (sound : IsSound layout grant) whe
     quiet_edge tck tms tdi next None makes opens moves scan contents codes types stands attends = absurd attends
     quiet_edge tck tms tdi next (Some chain) makes opens moves scan contents codes types stands attends =
         let same = ap (λ (c : ChainState). c.scan_open) moves ∙ scan in
-        let quiet = still_step turn opens makes.holds same (ap contents_of moves ∙ contents) (λ h. ap code_list moves ∙ codes h) in
-        let turn_is = still_turn turn opens makes.holds same in
+        let quiet = still_step layout grant turn opens makes.holds same (ap contents_of moves ∙ contents) (λ h. ap code_list moves ∙ codes h) in
+        let turn_is = still_turn layout grant turn opens makes.holds same in
         let follows = follows_quiet layout grant sound.parts (group_of_laws layout group sound.group_is) base_desk (desk_of layout desk chain) base turn (record turn { seat = advanced turn.seat }) quiet attends.0 in (
           subst (Follows layout group grant base_desk base (desk_of layout desk chain)) (sym turn_is) follows,
           after tck tms tdi old new turn next makes (ap (λ (t : Turn). t.seat) turn_is) moves types parts stands,

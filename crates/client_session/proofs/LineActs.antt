@@ -27,10 +27,9 @@ use Rattle.client_session.specs.Desks.{Attends, IsSound, StepsTo, desk_of}
 use Rattle.client_session.specs.Calls.{ComesTo, IsToAct, LinesTo, ShowsSeat, ShowsTap, WaitsThere}
 use Rattle.client_session.specs.Edges.{AfterEdge, EdgesTo, MakesEdge, SameLetters}
 use Rattle.client_session.proofs.Answering.{one_act}
-use Rattle.client_session.proofs.Quietly.{no_rise_next}
+use Rattle.client_session.proofs.Quietly.{no_rise_next, still_step, still_turn}
 use Rattle.client_session.proofs.Resting.{as_is, holds_step}
 use Rattle.client_session.proofs.Attending.{follows_quiet}
-use Rattle.client_session.proofs.Edges.{still_turn, still_step}
 
 never : {A : Type 0} → false ≡ true → A
 never e = absurd (let q : false ≡ true = e in cc)
@@ -169,12 +168,12 @@ module _ (layout : LayoutShape) (grant : ℕ) (sound : IsSound layout grant) (ba
       let opens : opens_next turn.seat ≡ false = no_rise_next turn.seat (ap (λ acts. rises_next acts turn.seat) is.acts ∙ (calm is).0) in
       let chain_is : (advanced turn.seat).chain ≡ turn.seat.chain = ap (λ (s : Seat). s.chain) seat in
       let scan = ap (λ (c : ChainState). c.scan_open) chain_is in
-      let quiet = still_step layout grant sound turn opens is.tap.holds scan (ap contents_of chain_is) (λ h. ap code_list chain_is) in
+      let quiet = still_step layout grant turn opens is.tap.holds scan (ap contents_of chain_is) (λ h. ap code_list chain_is) in
       let next : Turn = record turn { seat = advanced turn.seat } in
       record {
         next = next;
         steps = 1;
-        made = sym (still_turn layout grant sound turn opens is.tap.holds scan);
+        made = sym (still_turn layout grant turn opens is.tap.holds scan);
         gone = ap (λ (s : Seat). s.gone) seat;
         past = ap (λ (s : Seat). s.past) seat;
         there = (

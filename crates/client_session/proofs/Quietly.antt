@@ -1,13 +1,14 @@
 -- Steps that neither open nor close a scan.
-use Rattle.std.proofs.Common.{◌≡◌, ℕ, zero, suc, ◌+◌, Bool, true, false, not, ◌&&◌, List, ◌∷◌, refl, ap, sym, ◌∙◌, arith}
+use Rattle.std.proofs.Common.{◌≡◌, ℕ, zero, suc, ◌+◌, Bool, true, false, not, ◌&&◌, cond, List, ◌∷◌, refl, ap, sym, ◌∙◌, arith, None}
+use Rattle.chain_token.specs.Waiting.{may_open}
 use Rattle.scan_share.specs.Scans.{code_list, contents_of}
 use Rattle.tap_states.specs.States.{is_capture_dr}
 use Rattle.client_session.specs.Acts.{Act}
 use Rattle.client_session.specs.Seats.{Seat, acted, advanced, opens_next, rises_next}
-use Rattle.client_session.specs.Turns.{LayoutShape, Turn, frees, stepped, advanced_turn, advanced_turns, gone_on}
+use Rattle.client_session.specs.Turns.{LayoutShape, Turn, frees, freeing_cost, scan_length_of, stepped, advanced_turn, advanced_turns, gone_on}
 use Rattle.client_session.specs.Going.{Holds, Quiet, Leads, GoesTo}
 use Rattle.client_session.proofs.Answering.{one_act}
-use Rattle.client_session.proofs.Resting.{holds_step, gone_on-advanced}
+use Rattle.client_session.proofs.Resting.{as_is, holds_step, gone_on-advanced}
 
 module _ (layout : LayoutShape) (grant : ℕ) where
   pub advanced_turns-add : (m n : ℕ) (turn : Turn) → advanced_turns (m + n) layout grant turn ≡ advanced_turns n layout grant (advanced_turns m layout grant turn)
@@ -35,6 +36,33 @@ module _ (layout : LayoutShape) (grant : ℕ) where
   never_both : (b : Bool) → (b && not b) ≡ false
   never_both true = refl
   never_both false = refl
+
+  -- a step that leaves whether a scan is open
+  module _ (turn : Turn) (opens : opens_next turn.seat ≡ false) (holds : Holds grant turn) (scan : (advanced turn.seat).chain.scan_open ≡ turn.seat.chain.scan_open) where
+    pub still_turn : advanced_turn layout grant turn ≡ record turn { seat = advanced turn.seat }
+    still_turn =
+        let kept : frees turn.holder grant (advanced turn.seat) ≡ false = (λ i. holds i && not (scan i)) ∙ never_both turn.seat.chain.scan_open in
+        as_is layout grant false (may_open turn.holder turn.waiting grant) turn opens refl ∙ (λ i. record {
+          seat = advanced turn.seat;
+          holder = cond (kept i) None turn.holder;
+          waiting = turn.waiting;
+          joins = turn.joins;
+          cost = cond (kept i) (turn.cost + freeing_cost turn.seat.acts (scan_length_of layout grant turn.seat)) turn.cost;
+        })
+
+    pub still_step : contents_of (advanced turn.seat).chain ≡ contents_of turn.seat.chain → (turn.seat.chain.scan_open ≡ true → code_list (advanced turn.seat).chain ≡ code_list turn.seat.chain)
+        → Quiet layout grant turn (record turn { seat = advanced turn.seat })
+    still_step contents codes = record {
+      steps = 1;
+      made = sym still_turn;
+      holder = refl;
+      waiting = refl;
+      joins = refl;
+      cost = refl;
+      scan = scan;
+      contents = contents;
+      codes = codes;
+    }
 
   -- an act that leaves whether a scan is open
   pub quiet_act : (act : Act) (acts : List Act) (turn : Turn) → turn.seat.going ≡ true → turn.seat.acts ≡ act ∷ acts → opens_next turn.seat ≡ false → Holds grant turn
