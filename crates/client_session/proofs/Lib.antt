@@ -30,3 +30,4 @@ pub mod Calling
 pub mod Emptied
 pub mod Edges
 pub mod LineActs
+pub mod Messaging

@@ -12,3 +12,4 @@ pub mod Going
 pub mod Desks
 pub mod Calls
 pub mod Edges
+pub mod Messaging

@@ -8,14 +8,15 @@ ghost use Rattle.chain_model.specs.Chains.{ChainState};
 ghost use Rattle.chain_model.specs.Cycles.{rise, fall};
 ghost use Rattle.scan_share.specs.Scans.{IsWhole, types_of};
 ghost use Rattle.chain_token.specs.Tokens.{holder, waiting};
-ghost use Rattle.chain_token.specs.Waiting.{may_open};
+ghost use Rattle.chain_token.specs.Waiting.{is_among, may_open};
 ghost use Rattle.xvc_frame.specs.Frames.{tms_bits, tdi_bits};
 ghost use Rattle.virtual_tap.specs.Taps.{IsOfLayout, KeepsTap, ScansAt, at_update};
 ghost use Rattle.virtual_tap.specs.Views.{MovesAs, StandsFor, at_capture};
 ghost use Rattle.client_session.specs.Turns.{Turn};
 ghost use Rattle.client_session.specs.Sessions.{DeskView};
 ghost use Rattle.client_session.specs.Stores.{HoldsShift};
-ghost use Rattle.client_session.specs.Desks.{Attends, Entered, IsDesk, IsSound, LegTo, LegWithin, MayWait, StopsAt, StopsWell, cable_after, cable_of, cable_then};
+ghost use Rattle.client_session.specs.Desks.{Attends, Entered, IsDesk, IsSound, KeepsOthers, LegTo, LegWithin, MayWait, StopsAt, StopsWell, cable_after, cable_of, cable_then};
+ghost use Rattle.client_session.specs.Messaging.{waits_after};
 ghost use Rattle.client_session.specs.Going.{GoesTo, IsToClose, Leads, PausesWell, PutsBit, SampledAt, ShiftsAt, WalksTo, closed_if};
 
 use crate::desk::{Desk, capture, update};
@@ -210,6 +211,8 @@ pub fn next_leg<C: Cable>(
     ensures there { IfOk result (λ pair. is_some tap.new.view.register ≡ true) }
     ensures low { IfOk result (λ pair. ScansAt false tap.new.view) }
     ensures desk { IfOk result (λ pair. IsDesk layout.now grant tap.new.view pair.1) }
+    ensures others { IfOk result (λ pair. KeepsOthers grant desk pair.1) }
+    ensures line { IfOk result (λ pair. is_among grant (waiting desk) ≡ false → is_among grant (waiting pair.1) ≡ waits_after pair.0) }
     ensures whole { IfOk result (λ pair. Told (C.chain (cable_of pair.1.side)) (IsWhole layout.now)) }
     ensures vector { frame.new.vector ≡ frame.old.vector }
     ensures held { HoldsShift frame.new cycles }
@@ -263,6 +266,8 @@ pub fn shift_on<C: Cable>(
     ensures there { IfOk result (λ pair. is_some tap.new.view.register ≡ true) }
     ensures low { IfOk result (λ pair. ScansAt false tap.new.view) }
     ensures desk { IfOk result (λ pair. IsDesk layout.now grant tap.new.view pair.1) }
+    ensures others { IfOk result (λ pair. KeepsOthers grant desk pair.1) }
+    ensures line { IfOk result (λ pair. is_among grant (waiting desk) ≡ false → is_among grant (waiting pair.1) ≡ is_some pair.0) }
     ensures whole { IfOk result (λ pair. Told (C.chain (cable_of pair.1.side)) (IsWhole layout.now)) }
     ensures vector { frame.new.vector ≡ frame.old.vector }
     ensures held { HoldsShift frame.new cycles }
@@ -313,6 +318,8 @@ pub fn resume_shift<C: Cable>(
     ensures there { IfOk result (λ pair. is_some tap.new.view.register ≡ true) }
     ensures low { IfOk result (λ pair. ScansAt false tap.new.view) }
     ensures desk { IfOk result (λ pair. IsDesk layout.now grant tap.new.view pair.1) }
+    ensures others { IfOk result (λ pair. KeepsOthers grant desk pair.1) }
+    ensures line { IfOk result (λ pair. is_among grant (waiting pair.1) ≡ is_some pair.0) }
     ensures whole { IfOk result (λ pair. Told (C.chain (cable_of pair.1.side)) (IsWhole layout.now)) }
     ensures vector { frame.new.vector ≡ frame.old.vector }
     ensures held { HoldsShift frame.new cycles }

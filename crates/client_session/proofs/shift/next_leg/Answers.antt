@@ -3,6 +3,7 @@ use Rattle.chain_token.specs.Waiting.{is_among}
 use Rattle.client_session.specs.Desks.{cable_of}
 use Rattle.client_session.specs.Going.{ShiftsAt}
 use Rattle.client_session.proofs.Entering.{made_leg, update_leg, wait_leg, capture_leg, some_bits, desk_on}
+use Rattle.client_session.proofs.Others.{not_among, others_opened, others_same, others_waited}
 use Rattle.client_session.proofs.Resting.{joined}
 use Rattle.client_session.proofs.shift.next_leg.Goals as goal
 
@@ -35,3 +36,22 @@ returns-in_ok-desk-in-Yours-clause-went g c = λ base_desk base turn whole atten
     c.in-Yours.parked c.in-Yours.queue c.in_ok-desk-in-Yours.desk (g.C.Cable.chain (cable_of c.args.desk.side)) (g.C.Cable.chain c.in-Yours.parked.cable) (g.C.Cable.chain (cable_of c.in_ok-desk-in-Yours.desk.side))
     (c.in-Capture.ensures.went c.args.grant turn) c.in-Capture.ensures.pauses.1 c.in-Capture.ensures.held c.in-Capture.ensures.pauses.3 c.in-Yours.ensures (ap (λ side. g.C.Cable.chain (cable_of side)) c.in-Yours.ensures.1)
     c.in_ok-desk-in-Yours.ensures.same.1 c.in_ok-desk-in-Yours.ensures.entered attends
+
+pub returns-in-Made-clause-others : goal.returns-in-Made-clause-others
+returns-in-Made-clause-others g c = others_same c.args.grant c.args.desk
+
+pub returns-in_ok-desk-in-Update-clause-line : goal.returns-in_ok-desk-in-Update-clause-line
+returns-in_ok-desk-in-Update-clause-line g c = λ free. ap (is_among c.args.grant) c.in_ok-desk-in-Update.ensures.closed.waits_are ∙ free
+
+pub returns-in-Wait-clause-others : goal.returns-in-Wait-clause-others
+returns-in-Wait-clause-others g c = others_waited c.args.grant c.args.desk c.in-Wait.desk c.in-Wait.ensures
+
+pub returns-in-Wait-clause-line : goal.returns-in-Wait-clause-line
+returns-in-Wait-clause-line g c = λ free. subst (λ waits. is_among c.args.grant waits ≡ true) (sym c.in-Wait.ensures.2) (joined c.args.grant c.args.desk.queue)
+
+pub returns-in_ok-desk-in-Yours-clause-others : goal.returns-in_ok-desk-in-Yours-clause-others
+returns-in_ok-desk-in-Yours-clause-others g c =
+    others_opened c.args.grant c.args.desk c.in_ok-desk-in-Yours.desk c.in-Yours.parked c.in-Yours.queue c.in-Yours.ensures c.in_ok-desk-in-Yours.ensures.entered.held c.in_ok-desk-in-Yours.ensures.entered.waits_are
+
+pub returns-in_ok-desk-in-Yours-clause-line : goal.returns-in_ok-desk-in-Yours-clause-line
+returns-in_ok-desk-in-Yours-clause-line g c = λ free. ap (is_among c.args.grant) (c.in_ok-desk-in-Yours.ensures.entered.waits_are ∙ c.in-Yours.ensures.2) ∙ not_among c.args.grant c.args.desk.queue

@@ -1,8 +1,10 @@
-use Rattle.std.proofs.Common.{subst, ◌∙◌}
+use Rattle.std.proofs.Common.{ap, subst, ◌∙◌}
 use Rattle.client_session.specs.Desks.{Attends, LegTo, LegWithin, cable_of}
 use Rattle.client_session.specs.Going.{GoesTo, ShiftsAt}
 use Rattle.client_session.specs.declared.shift.Leg.TheVariants.{Made, On, Waits}
+use Rattle.client_session.specs.Messaging.{waits_after}
 use Rattle.client_session.proofs.Entering.{more_legs}
+use Rattle.client_session.proofs.Others.{others_more}
 use Rattle.client_session.proofs.shift.shift_on.Goals as goal
 
 pub returns-in-Made-clause-went : goal.returns-in-Made-clause-went
@@ -19,6 +21,18 @@ returns-in-Waits-clause-went g c = λ base_desk base turn whole attends.
     (λ here there. subst (λ leg. GoesTo c.args.layout.now c.args.grant (Attends c.args.layout.now c.args.grant base_desk base (LegTo leg c.args.layout.now c.next_leg.new.frame c.next_leg.new.tap c.args.cycles c.args.grant) c.in_ok-leg.next (g.C.Cable.chain (cable_of c.in_ok-leg.next.side))) here)
     c.in-Waits.is (c.in_ok-leg.ensures.went base_desk base here whole there))
 
+pub returns-in-Made-clause-others : goal.returns-in-Made-clause-others
+returns-in-Made-clause-others g c = others_more c.args.grant c.args.desk c.loop-leg.desk c.in_ok-leg.next c.loop-leg.invariant.others c.in_ok-leg.ensures.others
+
+pub returns-in-Made-clause-line : goal.returns-in-Made-clause-line
+returns-in-Made-clause-line g c = λ free. c.in_ok-leg.ensures.line (c.loop-leg.invariant.line free) ∙ ap waits_after c.in-Made.is
+
+pub returns-in-Waits-clause-others : goal.returns-in-Waits-clause-others
+returns-in-Waits-clause-others g c = others_more c.args.grant c.args.desk c.loop-leg.desk c.in_ok-leg.next c.loop-leg.invariant.others c.in_ok-leg.ensures.others
+
+pub returns-in-Waits-clause-line : goal.returns-in-Waits-clause-line
+returns-in-Waits-clause-line g c = λ free. c.in_ok-leg.ensures.line (c.loop-leg.invariant.line free) ∙ ap waits_after c.in-Waits.is
+
 pub loop-leg-preserved : goal.loop-leg-preserved
 loop-leg-preserved g c =
     let on = subst (λ leg. LegWithin leg c.next_leg.new.tap c.loop-leg.at c.args.cycles) c.in-On.is c.in_ok-leg.ensures.within in
@@ -30,6 +44,8 @@ loop-leg-preserved g c =
       there = c.in_ok-leg.ensures.there;
       low = c.in_ok-leg.ensures.low;
       desk_is = c.in_ok-leg.ensures.desk;
+      others = others_more c.args.grant c.args.desk c.loop-leg.desk c.in_ok-leg.next c.loop-leg.invariant.others c.in_ok-leg.ensures.others;
+      line = λ free. c.in_ok-leg.ensures.line (c.loop-leg.invariant.line free) ∙ ap waits_after c.in-On.is;
       whole = c.in_ok-leg.ensures.whole;
       mark = c.in_ok-leg.ensures.mark ∙ c.loop-leg.invariant.mark;
       trst = c.in_ok-leg.ensures.trst ∙ c.loop-leg.invariant.trst;

@@ -6,7 +6,9 @@ use Rattle.client_session.specs.Turns.{Turn}
 use Rattle.client_session.specs.Sessions.{DeskView}
 use Rattle.client_session.specs.Stores.{HoldsShift}
 use Rattle.client_session.specs.Going.{GoesTo, ShiftsAt}
-use Rattle.client_session.specs.Desks.{Attends, IsDesk, cable_of}
+use Rattle.chain_token.specs.Tokens.{waiting}
+use Rattle.chain_token.specs.Waiting.{is_among}
+use Rattle.client_session.specs.Desks.{Attends, IsDesk, KeepsOthers, cable_of}
 use Rattle.client_session.proofs.shift.shift_on.Given as goal
 
 abbrev pub invariant-loop-leg : goal.invariant-loop-leg
@@ -18,6 +20,8 @@ invariant-loop-leg g l = record {
   there : is_some l.tap.view.register ≡ true;
   low : ScansAt false l.tap.view;
   desk_is : IsDesk l.layout l.grant l.tap.view l.desk;
+  others : KeepsOthers l.grant l.fn.desk l.desk;
+  line : is_among l.grant (waiting l.fn.desk) ≡ false → is_among l.grant (waiting l.desk) ≡ false;
   whole : Told (g.C.Cable.chain (cable_of l.desk.side)) (IsWhole l.layout);
   mark : g.C.Cable.mark (cable_of l.desk.side) ≡ g.C.Cable.mark (cable_of l.fn.desk.side);
   trst : g.C.Cable.trst (cable_of l.desk.side) ≡ g.C.Cable.trst (cable_of l.fn.desk.side);
