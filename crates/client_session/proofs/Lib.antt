@@ -31,3 +31,4 @@ pub mod Emptied
 pub mod Edges
 pub mod LineActs
 pub mod Messaging
+pub mod Lettering

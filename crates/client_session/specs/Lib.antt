@@ -13,3 +13,4 @@ pub mod Desks
 pub mod Calls
 pub mod Edges
 pub mod Messaging
+pub mod Letters

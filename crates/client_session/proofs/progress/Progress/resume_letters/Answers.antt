@@ -1,0 +1,17 @@
+use Rattle.client_session.specs.Desks.{Attends, cable_of}
+use Rattle.client_session.specs.Calls.{HaltsAt, HasReplied, ShowsSeat}
+use Rattle.client_session.proofs.Lettering.{comes_more, failed_so}
+use Rattle.client_session.proofs.progress.Progress.resume_letters.Goals as goal
+
+pub returns-in_err-halt-clause-failed : goal.returns-in_err-halt-clause-failed
+returns-in_err-halt-clause-failed g c = failed_so c.from_residual-in_err-halt.result (λ given base_desk base turn whole attends.
+    comes_more c.args.layout.now c.args.grant (Attends c.args.layout.now c.args.grant base_desk base (ShowsSeat c.resume_lines.new.self c.args.grant given) c.in_ok-desk.desk (g.C.Cable.chain (cable_of c.in_ok-desk.desk.side))) (HasReplied c.use_letters.new.self given) turn
+    (c.in_ok-desk.ensures.went given base_desk base turn whole attends)
+    (λ next there. c.in_err-halt.ensures.failed given base_desk base next whole there))
+
+pub returns-clause-went : goal.returns-clause-went
+returns-clause-went g c = λ given base_desk base turn whole attends.
+    comes_more c.args.layout.now c.args.grant (Attends c.args.layout.now c.args.grant base_desk base (ShowsSeat c.resume_lines.new.self c.args.grant given) c.in_ok-desk.desk (g.C.Cable.chain (cable_of c.in_ok-desk.desk.side)))
+    (Attends c.args.layout.now c.args.grant base_desk base (HaltsAt c.in_ok-halt.halt c.args.layout.now c.use_letters.new.self c.args.grant given) c.in_ok-halt.desk (g.C.Cable.chain (cable_of c.in_ok-halt.desk.side))) turn
+    (c.in_ok-desk.ensures.went given base_desk base turn whole attends)
+    (λ next there. c.in_ok-halt.ensures.went given base_desk base next whole there)
