@@ -1,40 +1,34 @@
 -- The letters of remote_bitbang at the desk, used one after another.
-use Rattle.std.proofs.Common.{◌≡◌, ◌≤◌, ◌<◌, ◌+◌, ◌-◌, ℕ, zero, suc, Bool, true, false, not, ◌&&◌, List, [], ◌∷◌, ◌++◌, drop, length, refl, ap, sym, ◌∙◌, subst, arith, append_assoc, length-append, Some, None, is_some}
+use Rattle.std.proofs.Common.{◌≡◌, ◌+◌, ◌-◌, ℕ, Bool, true, false, not, ◌&&◌, List, [], ◌∷◌, ◌++◌, drop, length, refl, ap, sym, ◌∙◌, subst, arith, append_assoc, Some, None}
 use Rattle.std.specs.Prelude.{IfErr, slice_get}
 use Rattle.std.specs.declared.option.Option.{Option}
 use Rattle.std.specs.declared.result.Result.{Result}
 use Rattle.std.specs.declared.result.Result.TheVariants.{Ok, Err}
-use Rattle.std.proofs.lemmas.List.{append-nil, drop-append-le}
+use Rattle.std.proofs.lemmas.List.{append-nil}
 use Rattle.bitbang_frame.specs.declared.Letter.{Letter}
-use Rattle.bitbang_frame.specs.declared.Letter.TheVariants as letters
 use Rattle.bitbang_frame.specs.Letters.{letter}
 use Rattle.chain_model.specs.Chains.{ChainState}
 use Rattle.chain_token.specs.declared.token.Token.{Token}
-use Rattle.grant_table.specs.declared.Protocol.{Protocol}
 use Rattle.grant_table.specs.declared.Protocol.TheVariants as protocols
 use Rattle.grant_table.specs.Layouts.{LayoutShape, group_of}
-use Rattle.scan_share.specs.Scans.{types_of}
 use Rattle.scan_share.specs.Views.{ParkedView, OpenView}
 use Rattle.scan_share.proofs.Groups.{group_of_laws}
-use Rattle.virtual_tap.specs.Taps.{VTapState, ScansAt}
+use Rattle.virtual_tap.specs.Taps.{VTapState}
 use Rattle.virtual_tap.specs.Views.{StandsFor}
-use Rattle.tap_states.specs.declared.Tap.TheVariants.{TestLogicReset}
 use Rattle.client_session.specs.declared.End.TheVariants.{Quit, Refused}
-use Rattle.client_session.specs.declared.halt.Halt.TheVariants.{Rests, Ends}
 use Rattle.client_session.specs.declared.input.Input.{Input}
 use Rattle.client_session.specs.declared.input.Input.TheVariants.{Xvc, Bitbang}
-use Rattle.client_session.specs.declared.input.Edge.{Edge}
 use Rattle.client_session.specs.declared.progress.Progress.{Progress}
-use Rattle.client_session.specs.Acts.{Act, letter_acts}
+use Rattle.client_session.specs.Acts.{Act}
 use Rattle.client_session.specs.Acts.Act.{SayTdo, EndAt}
-use Rattle.client_session.specs.Seats.{Seat, Next, advanced, acted, ended, next_bitbang, next_in, next_letter, opens_next, rises_next, tdo_digit}
-use Rattle.client_session.specs.Seats.Next.{Whole, RefusedAt, Nothing}
+use Rattle.client_session.specs.Seats.{Seat, Next, advanced, acted, ended, next_bitbang, next_letter, opens_next, rises_next, tdo_digit}
+use Rattle.client_session.specs.Seats.Next.{Whole, RefusedAt}
 use Rattle.client_session.specs.Turns.{Turn, frees, stepped, advanced_turn, advanced_turns}
 use Rattle.client_session.specs.Sessions.{DeskView}
-use Rattle.client_session.specs.Stores.{AwaitsBytes, IsInTime, KeepsProgress, acts_of, edge_left, protocol_of, replied, reply_of, sampled_of, unused_of}
+use Rattle.client_session.specs.Stores.{AwaitsBytes, acts_of, protocol_of, replied, reply_of, sampled_of, unused_of}
 use Rattle.client_session.specs.Going.{Holds, Quiet}
 use Rattle.client_session.specs.Desks.{Attends, IsSound, desk_of}
-use Rattle.client_session.specs.Calls.{ComesTo, EndsSo, HaltsAt, HasReplied, IsToAct, KeepsLetters, KeepsSettings, MayGoOn, RestsThere, ShowsFed, ShowsSeat, ShowsTap}
+use Rattle.client_session.specs.Calls.{ComesTo, EndsSo, HasReplied, IsToAct, KeepsLetters, KeepsSettings, RestsThere, ShowsFed, ShowsSeat, ShowsTap}
 use Rattle.client_session.specs.Letters.{ComesQuietly, IsToDo, KeepsLines, SaysTdo, TakesLetters, UsesFirst}
 use Rattle.client_session.proofs.Answering.{one_act}
 use Rattle.client_session.proofs.Attending.{follows_quiet}

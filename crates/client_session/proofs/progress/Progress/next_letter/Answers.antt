@@ -1,5 +1,4 @@
-use Rattle.std.proofs.Common.{ap, sym, ◌∙◌, Some, None}
-use Rattle.bitbang_frame.specs.declared.Letter.TheVariants.{Quit}
+use Rattle.std.proofs.Common.{ap, sym, ◌∙◌, Some}
 use Rattle.client_session.specs.Seats.{next_letter}
 use Rattle.client_session.specs.Seats.Next.{Whole}
 use Rattle.client_session.specs.Stores.{unused_of}

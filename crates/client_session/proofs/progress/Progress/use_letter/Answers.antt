@@ -1,5 +1,5 @@
-use Rattle.std.proofs.Common.{ap, ◌∙◌, List, [], ◌∷◌}
-use Rattle.client_session.specs.Acts.Act.{SayTdo, SetLines, SetTrst}
+use Rattle.std.proofs.Common.{ap, ◌∙◌}
+use Rattle.client_session.specs.Acts.Act.{SetLines, SetTrst}
 use Rattle.client_session.specs.Seats.Next.{Whole}
 use Rattle.client_session.specs.Desks.{Attends, cable_of}
 use Rattle.client_session.specs.Calls.{LinesTo, ShowsSeat}

@@ -1,4 +1,4 @@
-use Rattle.std.proofs.Common.{◌≡◌, ℕ, List, [], length, true, false}
+use Rattle.std.proofs.Common.{◌≡◌, ℕ, List, [], length, false}
 use Rattle.base_types.specs.Tellings.{Told}
 use Rattle.chain_token.specs.Tokens.{waiting}
 use Rattle.chain_token.specs.Waiting.{is_among}
