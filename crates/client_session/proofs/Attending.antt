@@ -17,7 +17,7 @@ use Rattle.scan_share.proofs.Facts.{IsGroup}
 use Rattle.scan_share.proofs.Kept.{entries_each, timed_rise, timed_shut}
 use Rattle.scan_share.proofs.MadeOf.{all_sound}
 use Rattle.virtual_tap.specs.Taps.{VTapState}
-use Rattle.virtual_tap.specs.Views.{StandsFor, at_capture, closed_view, opened_view}
+use Rattle.virtual_tap.specs.Views.{TapView, StandsFor, at_capture, closed_view, opened_view}
 use Rattle.virtual_tap.proofs.CaptureEdge.{capture_edge}
 use Rattle.xvc_frame.specs.Frames.{FrameState, tms_bits, tdi_bits}
 use Rattle.client_session.specs.Acts.{Act, shift_acts}
@@ -29,7 +29,7 @@ use Rattle.client_session.specs.Sessions.{DeskView, Serves, KeepsChain}
 use Rattle.client_session.specs.Going.{Holds, Quiet, PutsBit, Follows, GoesTo, Leads, SampledAt, ShiftsAt, ClosesAt, WaitsAt}
 use Rattle.client_session.proofs.Kept.{turns_over}
 use Rattle.client_session.proofs.Answering.{one_act}
-use Rattle.client_session.proofs.Opening.{both, not_true, opens_opens}
+use Rattle.client_session.proofs.Opening.{both, not_true, opens_is, opens_opens}
 use Rattle.client_session.proofs.Resting.{as_is, waits_still, joined as joins}
 use Rattle.client_session.proofs.Quietly.{quiet_act, quiet_more, no_rise_next, advanced_turns-add}
 use Rattle.client_session.proofs.Untouched.{fall_contents, fall_codes, fall_types, rise_types}
@@ -80,6 +80,66 @@ module _ (layout : LayoutShape) (grant : ℕ) (parts : AllParts layout.parts) (i
         due = omega (arith, follows.due, quiet.cost);
         made = subst (λ cost. desk.chain.made ≤ raised base_desk.chain.made (cost - base.cost)) (sym quiet.cost) follows.made;
       }
+
+  -- ---- a rise that opens a scan, whatever act makes it
+
+  module _ (base_desk desk : DeskView) (base turn : Turn) (whole : IsWhole layout base_desk.chain) (follows : Follows layout group grant base_desk base desk turn) (opens : opens_next turn.seat ≡ true) where
+    in_line : (holder : Option ℕ) → KeepsChain layout group grant holder desk turn.seat → KeepsChain layout group grant holder (record desk { waiting = with_waiting grant desk.waiting }) turn.seat
+    in_line None keeps = keeps
+    in_line (Some holder) keeps = λ mine. record { scan = (keeps mine).scan; chain_open = (keeps mine).chain_open }
+
+    -- the grant waits before it
+    module _ (closed : may_open desk.holder desk.waiting grant ≡ false) where
+      not_yet : may_open turn.holder turn.waiting grant ≡ false
+      not_yet = (λ i. may_open (sym follows.serves.holder i) (sym follows.serves.waiting i) grant) ∙ closed
+
+      pub line_turn : advanced_turn layout grant turn ≡ put_in_line grant turn
+      line_turn = as_is layout grant true false turn opens not_yet
+
+      pub line_rests : advanced_turn layout grant (put_in_line grant turn) ≡ put_in_line grant turn
+      line_rests = waits_still layout grant turn opens not_yet
+
+      pub follows_line : Follows layout group grant base_desk base (record desk { waiting = with_waiting grant desk.waiting }) (put_in_line grant turn)
+      follows_line = record {
+        serves = record {
+          whole = follows.serves.whole;
+          over = follows.serves.over;
+          counted = follows.serves.counted;
+          holder = follows.serves.holder;
+          waiting = ap (with_waiting grant) follows.serves.waiting;
+          holds = follows.serves.holds;
+          contents = follows.serves.contents;
+          keeps = in_line desk.holder follows.serves.keeps;
+        };
+        others = follows.others;
+        held = follows.held;
+        untouched = follows.untouched;
+        due = follows.due;
+        made = follows.made;
+      }
+
+    -- the chain is the grant's
+    module _ (open_to : may_open desk.holder desk.waiting grant ≡ true) (tms tdi : Bool) (rises : (advanced turn.seat).chain ≡ rise turn.seat.chain tms tdi) (view : TapView) (stands : StandsFor view turn.seat.chain)
+        (bits : List Bool) (chain : ChainState) (captures : Captures layout group view.codes bits desk.chain chain) where
+      may_now : may_open turn.holder turn.waiting grant ≡ true
+      may_now = (λ i. may_open (sym follows.serves.holder i) (sym follows.serves.waiting i) grant) ∙ open_to
+
+      captures_now : Captures layout group (code_list turn.seat.chain) bits desk.chain chain
+      captures_now = subst (λ cs. Captures layout group cs bits desk.chain chain) stands.codes captures
+
+      pub captured_turn : advanced_turn layout grant turn ≡ captured layout grant (advanced turn.seat) turn
+      captured_turn = opened_turn layout grant parts is base_desk desk base turn whole follows opens may_now
+
+      pub follows_captured : Follows layout group grant base_desk base (record { holder = Some grant; waiting = without grant desk.waiting; scan = Some (record { grant = grant; codes = view.codes }); chain = chain }) (advanced_turn layout grant turn)
+      follows_captured =
+          subst (λ cs. Follows layout group grant base_desk base (record { holder = Some grant; waiting = without grant desk.waiting; scan = Some (record { grant = grant; codes = cs }); chain = chain }) (advanced_turn layout grant turn)) (sym stands.codes)
+          (opens_scan layout grant parts is base_desk desk base turn whole follows tms tdi opens may_now rises bits chain captures_now)
+
+      pub stands_captured : StandsFor (record (opened_view bits view) { state = next_state view.state tms }) (rise turn.seat.chain tms tdi)
+      stands_captured =
+          subst (λ b. StandsFor (record (opened_view b view) { state = next_state view.state tms }) (rise turn.seat.chain tms tdi))
+          (sym (captured_bits layout grant parts is base_desk desk base turn whole follows tms tdi opens may_now rises bits chain captures_now))
+          (capture_edge view turn.seat.chain tms tdi stands (opens_is turn.seat opens).state)
 
   -- ---- the fall that ends a scan
 
@@ -178,36 +238,25 @@ module _ (layout : LayoutShape) (grant : ℕ) (parts : AllParts layout.parts) (i
         abbrev fallen_turn : Turn
         fallen_turn = record risen_turn { seat = record risen_turn.seat { acts = behind; chain = fall (rise here.seat.chain rise_tms rise_tdi) } }
 
-        may : may_open here.holder here.waiting grant ≡ true
-        may = (λ i. may_open (sym follows_here.serves.holder i) (sym follows_here.serves.waiting i) grant) ∙ open_to
-
         rises : advanced here.seat ≡ risen_turn.seat
         rises = one_act (Rise rise_tms rise_tdi) (Fall ∷ behind) here.seat amid.going amid.acts
 
-        codes_are : tap.view.codes ≡ code_list here.seat.chain
-        codes_are = amid.stands.codes
-
-        captures_here : Captures layout group (code_list here.seat.chain) bits desk.chain chain
-        captures_here = subst (λ cs. Captures layout group cs bits desk.chain chain) codes_are captures
+        rises_chain : (advanced here.seat).chain ≡ rise here.seat.chain rise_tms rise_tdi
+        rises_chain = ap (λ (s : Seat). s.chain) rises
 
         captured_is : advanced_turn layout grant here ≡ risen_turn
         captured_is =
-            opened_turn layout grant parts is base_desk desk base here whole follows_here here_opens may
+            captured_turn base_desk desk base here whole follows_here here_opens open_to rise_tms rise_tdi rises_chain tap.view amid.stands bits chain captures
             ∙ ap (λ s. captured layout grant s here) rises
 
         follows_risen : Follows layout group grant base_desk base desk_held risen_turn
         follows_risen =
             subst (Follows layout group grant base_desk base desk_held) captured_is
-            (subst (λ cs. Follows layout group grant base_desk base (record { holder = Some grant; waiting = without grant desk.waiting; scan = Some (record { grant = grant; codes = cs }); chain = chain }) (advanced_turn layout grant here)) (sym codes_are)
-            (opens_scan layout grant parts is base_desk desk base here whole follows_here rise_tms rise_tdi here_opens may (ap (λ (s : Seat). s.chain) rises) bits chain captures_here))
-
-        bits_are : bits ≡ joined (dr_stages (rise here.seat.chain rise_tms rise_tdi).devices)
-        bits_are = captured_bits layout grant parts is base_desk desk base here whole follows_here rise_tms rise_tdi here_opens may (ap (λ (s : Seat). s.chain) rises) bits chain captures_here
+            (follows_captured base_desk desk base here whole follows_here here_opens open_to rise_tms rise_tdi rises_chain tap.view amid.stands bits chain captures)
 
         stands_then : StandsFor tap_new.view (fall (rise here.seat.chain rise_tms rise_tdi))
         stands_then = moved (rise here.seat.chain rise_tms rise_tdi) (rise_types here.seat.chain rise_tms rise_tdi ∙ amid.types)
-            (subst (λ b. StandsFor (record (opened_view b tap.view) { state = next_state tap.view.state rise_tms }) (rise here.seat.chain rise_tms rise_tdi)) (sym bits_are)
-            (capture_edge tap.view here.seat.chain rise_tms rise_tdi amid.stands here_state))
+            (stands_captured base_desk desk base here whole follows_here here_opens open_to rise_tms rise_tdi rises_chain tap.view amid.stands bits chain captures)
 
         open_risen : (rise here.seat.chain rise_tms rise_tdi).scan_open ≡ true
         open_risen = sym (ap (λ (s : Seat). s.chain.scan_open) rises) ∙ opens_opens here.seat here_opens
@@ -284,43 +333,20 @@ module _ (layout : LayoutShape) (grant : ℕ) (parts : AllParts layout.parts) (i
       pub wait_on : may_open desk.holder desk.waiting grant ≡ false
           → GoesTo layout grant (λ turn. Follows layout group grant base_desk base (record desk { waiting = with_waiting grant desk.waiting }) turn × WaitsAt layout frame tap at grant turn) start
       wait_on closed =
-          let serves = follows_sample.serves in
-          let may : may_open sampled_turn.holder sampled_turn.waiting grant ≡ false = (λ i. may_open (sym serves.holder i) (sym serves.waiting i) grant) ∙ closed in
-          let line : advanced_turn layout grant sampled_turn ≡ put_in_line grant sampled_turn = as_is layout grant true false sampled_turn opens may in
           record {
             next = put_in_line grant sampled_turn;
             steps = to_sample.steps + 1;
-            made = sym line ∙ ap (advanced_turn layout grant) to_sample.made ∙ sym (advanced_turns-add layout grant to_sample.steps 1 start);
+            made = sym (line_turn base_desk desk base sampled_turn whole follows_sample opens closed) ∙ ap (advanced_turn layout grant) to_sample.made ∙ sym (advanced_turns-add layout grant to_sample.steps 1 start);
             kept = ap (λ (s : Seat). record s { acts = Rise tms tdi ∷ Fall ∷ rest; sampled = before.seat.sampled ++ before.seat.chain.tdo ∷ [] }) leads.kept;
             there = (
-              record {
-                serves = record {
-                  whole = serves.whole;
-                  over = serves.over;
-                  counted = serves.counted;
-                  holder = serves.holder;
-                  waiting = ap (with_waiting grant) serves.waiting;
-                  holds = serves.holds;
-                  contents = serves.contents;
-                  keeps = in_line desk.holder serves.keeps;
-                };
-                others = follows_sample.others;
-                held = follows_sample.held;
-                untouched = follows_sample.untouched;
-                due = follows_sample.due;
-                made = follows_sample.made;
-              },
+              follows_line base_desk desk base sampled_turn whole follows_sample opens closed,
               record {
                 amid = record { going = leads.there.going; holds = leads.there.holds; types = leads.there.types; acts = refl; sampled = sampled_are; stands = leads.there.stands };
-                rests = waits_still layout grant sampled_turn opens may;
+                rests = line_rests base_desk desk base sampled_turn whole follows_sample opens closed;
                 waits = joins grant before.waiting;
               },
             );
           }
-        where
-          in_line : (holder : Option ℕ) → KeepsChain layout group grant holder desk sampled_turn.seat → KeepsChain layout group grant holder (record desk { waiting = with_waiting grant desk.waiting }) sampled_turn.seat
-          in_line None keeps = keeps
-          in_line (Some holder) keeps = λ mine. record { scan = (keeps mine).scan; chain_open = (keeps mine).chain_open }
 
       -- where the chain is the grant's
       pub capture_on : (may_open desk.holder desk.waiting grant ≡ true) → (bits : List Bool) (chain : ChainState) → Captures layout group tap.view.codes bits desk.chain chain

@@ -29,10 +29,10 @@ use Rattle.client_session.specs.Edges.{AfterEdge, EdgesTo, MakesEdge}
 use Rattle.client_session.proofs.Untouched.{rise_contents, rise_codes, rise_scan, rise_types, fall_contents, fall_codes, fall_types}
 use Rattle.client_session.proofs.Cycles.{no_capture}
 use Rattle.client_session.proofs.Opening.{both}
-use Rattle.client_session.proofs.Resting.{as_is, holds_step, waits_still, joined as joins}
+use Rattle.client_session.proofs.Resting.{as_is, holds_step, joined as joins}
 use Rattle.client_session.proofs.Quietly.{still_step, still_turn}
-use Rattle.client_session.proofs.Sharing.{closes_scan, opens_scan, opened_turn, captured_bits}
-use Rattle.client_session.proofs.Attending.{follows_quiet}
+use Rattle.client_session.proofs.Sharing.{closes_scan}
+use Rattle.client_session.proofs.Attending.{captured_turn, follows_captured, follows_line, follows_quiet, line_rests, line_turn, stands_captured}
 use Rattle.client_session.proofs.Entering.{shown_as}
 
 never : {A : Type 0} → false ≡ true → A
@@ -134,9 +134,6 @@ module _ (layout : LayoutShape) (grant : ℕ) (sound : IsSound layout grant) whe
 
     -- ---- the rise that leaves Capture-DR
 
-    captures_now : (tms tdi : Bool) → MakesEdge true tms tdi old grant turn → at_capture old.view ≡ true → opens_next turn.seat ≡ true
-    captures_now tms tdi makes capture = makes.opens ∙ capture
-
     -- it is made: the shared chain captured
     pub capture_made : (tms tdi : Bool) (mid : VTapState) (parked : ParkedView C) (queue : List ℕ) (next : Token (ParkedView C) (OpenView C)) (before at_rest after_it : Option ChainState)
         → at_capture old.view ≡ true → Answers desk grant (asked.Yours parked queue) → before ≡ at_rest → Opened layout grant queue old mid next at_rest after_it → (is_capture_dr mid.view.state ≡ true → new.view ≡ record mid.view { state = next_state mid.view.state tms })
@@ -147,27 +144,17 @@ module _ (layout : LayoutShape) (grant : ℕ) (sound : IsSound layout grant) whe
         let here = subst (λ told. Attends layout grant base_desk base (MakesEdge true tms tdi old grant) desk told turn) same attends in
         let makes = here.1 in
         let laws = group_of_laws layout group sound.group_is in
-        let opens = captures_now tms tdi makes capture in
-        let may : may_open turn.holder turn.waiting grant ≡ true = (λ i. may_open (sym here.0.serves.holder i) (sym here.0.serves.waiting i) grant) ∙ answer.0 in
-        let old_state : is_capture_dr old.view.state ≡ true = (both (is_capture_dr old.view.state) (not old.view.scan_open) capture).0 in
-        let state : is_capture_dr turn.seat.chain.state ≡ true = ap is_capture_dr (sym makes.stands.state) ∙ old_state in
-        let captures = subst (λ cs. Captures layout group cs opened.bits chain chain_new) makes.stands.codes opened.captured in
-        let follows = opens_scan layout grant sound.parts laws base_desk (desk_of layout desk chain) base turn whole here.0 tms tdi opens may makes.moves opened.bits chain_new captures in
-        let bits_are = captured_bits layout grant sound.parts laws base_desk (desk_of layout desk chain) base turn whole here.0 tms tdi opens may makes.moves opened.bits chain_new captures in
-        let turn_is = opened_turn layout grant sound.parts laws base_desk (desk_of layout desk chain) base turn whole here.0 opens may in
-        let scan : scan_on layout next.side ≡ Some (record { grant = grant; codes = code_list turn.seat.chain }) = opened.scan ∙ ap (λ cs. Some (record { grant = grant; codes = cs })) makes.stands.codes in
-        let shows = shown_as layout next chain_new (Some grant) (without grant (waiting desk)) (Some (record { grant = grant; codes = code_list turn.seat.chain })) opened.held (opened.waits_are ∙ answer.2) scan in
-        let view_is : new.view ≡ record (opened_view opened.bits old.view) { state = next_state old.view.state tms } = risen (ap (λ (v : TapView). is_capture_dr v.state) opened.view_is ∙ old_state) ∙ ap (λ (v : TapView). record v { state = next_state v.state tms }) opened.view_is in
-        let stands : StandsFor (record (opened_view opened.bits old.view) { state = next_state old.view.state tms }) (rise turn.seat.chain tms tdi) =
-        subst (λ b. StandsFor (record (opened_view b old.view) { state = next_state old.view.state tms }) (rise turn.seat.chain tms tdi)) (sym bits_are) (capture_edge old.view turn.seat.chain tms tdi makes.stands state) in (
+        let opens = makes.opens ∙ capture in
+        let follows = follows_captured layout grant sound.parts laws base_desk (desk_of layout desk chain) base turn whole here.0 opens answer.0 tms tdi makes.moves old.view makes.stands opened.bits chain_new opened.captured in
+        let turn_is = captured_turn layout grant sound.parts laws base_desk (desk_of layout desk chain) base turn whole here.0 opens answer.0 tms tdi makes.moves old.view makes.stands opened.bits chain_new opened.captured in
+        let stands = stands_captured layout grant sound.parts laws base_desk (desk_of layout desk chain) base turn whole here.0 opens answer.0 tms tdi makes.moves old.view makes.stands opened.bits chain_new opened.captured in
+        let shows = shown_as layout next chain_new (Some grant) (without grant (waiting desk)) (Some (record { grant = grant; codes = old.view.codes })) opened.held (opened.waits_are ∙ answer.2) opened.scan in
+        let state : is_capture_dr old.view.state ≡ true = (both (is_capture_dr old.view.state) (not old.view.scan_open) capture).0 in
+        let view_is : new.view ≡ record (opened_view opened.bits old.view) { state = next_state old.view.state tms } = risen (ap (λ (v : TapView). is_capture_dr v.state) opened.view_is ∙ state) ∙ ap (λ (v : TapView). record v { state = next_state v.state tms }) opened.view_is in (
           subst (λ d. Follows layout group grant base_desk base d (advanced_turn layout grant turn)) shows follows,
           after true tms tdi old new turn (rise turn.seat.chain tms tdi) makes (ap (λ (t : Turn). t.seat) turn_is) makes.moves (rise_types turn.seat.chain tms tdi) parts
               (subst (λ (v : TapView). StandsFor v (rise turn.seat.chain tms tdi)) (sym view_is) stands),
         )
-
-    in_line : (held : Option ℕ) (chain : ChainState) → KeepsChain layout group grant held (desk_of layout desk chain) turn.seat → KeepsChain layout group grant held (record (desk_of layout desk chain) { waiting = with_waiting grant (waiting desk) }) turn.seat
-    in_line None chain keeps = keeps
-    in_line (Some other) chain keeps = λ mine. record { scan = (keeps mine).scan; chain_open = (keeps mine).chain_open }
 
     -- the grant waits before it
     pub capture_waits : (tms tdi : Bool) (next : Token (ParkedView C) (OpenView C)) (before after_it : Option ChainState)
@@ -176,34 +163,18 @@ module _ (layout : LayoutShape) (grant : ℕ) (sound : IsSound layout grant) whe
     capture_waits tms tdi next None after_it capture answer same kept attends = absurd attends
     capture_waits tms tdi next (Some chain) after_it capture answer same kept attends =
         let makes = attends.1 in
-        let serves = attends.0.serves in
-        let opens = captures_now tms tdi makes capture in
-        let may : may_open turn.holder turn.waiting grant ≡ false = (λ i. may_open (sym serves.holder i) (sym serves.waiting i) grant) ∙ answer.0 in
-        let line : advanced_turn layout grant turn ≡ put_in_line grant turn = as_is layout grant true false turn opens may in
+        let laws = group_of_laws layout group sound.group_is in
+        let opens = makes.opens ∙ capture in
+        let line = line_turn layout grant sound.parts laws base_desk (desk_of layout desk chain) base turn whole attends.0 opens answer.0 in
+        let rests = line_rests layout grant sound.parts laws base_desk (desk_of layout desk chain) base turn whole attends.0 opens answer.0 in
+        let follows = follows_line layout grant sound.parts laws base_desk (desk_of layout desk chain) base turn whole attends.0 opens answer.0 in
         let shows = shown_as layout next chain (holder desk) (with_waiting grant (waiting desk)) (scan_on layout desk.side) (ap holder_of answer.1) answer.2 (ap (scan_on layout) answer.1) in
-        let follows : Follows layout group grant base_desk base (record (desk_of layout desk chain) { waiting = with_waiting grant (waiting desk) }) (put_in_line grant turn) = record {
-          serves = record {
-            whole = serves.whole;
-            over = serves.over;
-            counted = serves.counted;
-            holder = serves.holder;
-            waiting = ap (with_waiting grant) serves.waiting;
-            holds = serves.holds;
-            contents = serves.contents;
-            keeps = in_line (holder desk) chain serves.keeps;
-          };
-          others = attends.0.others;
-          held = attends.0.held;
-          untouched = attends.0.untouched;
-          due = attends.0.due;
-          made = attends.0.made;
-        } in
         let there : AfterEdge true layout new grant turn (put_in_line grant turn) = record {
           holds = makes.holds;
           types = makes.types ∙ ap (λ (t : VTapState). t.parts) (sym kept);
           stands = subst (λ (t : VTapState). StandsFor t.view turn.seat.chain) (sym kept) makes.stands;
           seat = refl;
-          rests = λ h. waits_still layout grant turn opens may;
+          rests = λ h. rests;
           line = λ h. joins grant turn.waiting;
         } in
         subst (λ told. EdgesTo true layout grant new base_desk base next told turn) same

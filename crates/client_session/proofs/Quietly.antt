@@ -1,5 +1,5 @@
 -- Steps that neither open nor close a scan.
-use Rattle.std.proofs.Common.{◌≡◌, ℕ, zero, suc, ◌+◌, Bool, true, false, not, ◌&&◌, cond, List, ◌∷◌, refl, ap, sym, ◌∙◌, arith, None}
+use Rattle.std.proofs.Common.{◌≡◌, ℕ, zero, suc, ◌+◌, Bool, true, false, not, ◌&&◌, cond, List, ◌∷◌, refl, ap, sym, ◌∙◌, subst, arith, None}
 use Rattle.chain_token.specs.Waiting.{may_open}
 use Rattle.scan_share.specs.Scans.{code_list, contents_of}
 use Rattle.tap_states.specs.States.{is_capture_dr}
@@ -71,21 +71,9 @@ module _ (layout : LayoutShape) (grant : ℕ) where
       → (turn.seat.chain.scan_open ≡ true → code_list (acted act (record turn.seat { acts = acts })).chain ≡ code_list turn.seat.chain)
       → Quiet layout grant turn (record turn { seat = acted act (record turn.seat { acts = acts }) })
   quiet_act act acts turn going a opens holds scan contents codes =
-      let new = acted act (record turn.seat { acts = acts }) in
-      let kept : frees turn.holder grant new ≡ false = rw (holds, scan) (never_both turn.seat.chain.scan_open) in
-      let step : stepped layout grant new turn ≡ record turn { seat = new } = rw kept refl in
-      let as_is : advanced_turn layout grant turn ≡ stepped layout grant (advanced turn.seat) turn = rw opens refl in
-      record {
-        steps = 1;
-        made = sym (as_is ∙ ap (λ s. stepped layout grant s turn) (one_act act acts turn.seat going a) ∙ step);
-        holder = refl;
-        waiting = refl;
-        joins = refl;
-        cost = refl;
-        scan = scan;
-        contents = contents;
-        codes = codes;
-      }
+      let made = one_act act acts turn.seat going a in
+      subst (λ s. Quiet layout grant turn (record turn { seat = s })) made
+      (still_step turn opens holds (ap (λ (s : Seat). s.chain.scan_open) made ∙ scan) (ap (λ (s : Seat). contents_of s.chain) made ∙ contents) (λ h. ap (λ (s : Seat). code_list s.chain) made ∙ codes h))
 
   -- quiet steps lead where none lead
   pub holds_on : (times : ℕ) (turn : Turn) → Holds grant turn → Holds grant (advanced_turns times layout grant turn)
