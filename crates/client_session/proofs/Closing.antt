@@ -1,5 +1,5 @@
 -- A chain that is closed at the end of a session, or reset by TRST, at the desk.
-use Rattle.std.proofs.Common.{◌≡◌, ◌+◌, ℕ, Bool, true, false, not, ◌&&◌, cond, List, [], ◌∷◌, ◌++◌, map, refl, ap, sym, ◌∙◌, subst, Some, None}
+use Rattle.std.proofs.Common.{◌≡◌, ℕ, Bool, true, false, cond, List, [], ◌∷◌, ◌++◌, map, refl, ap, sym, ◌∙◌, subst, Some, None}
 use Rattle.std.specs.declared.option.Option.{Option}
 use Rattle.scan_bits.specs.Registers.{joined}
 use Rattle.chain_model.specs.Chains.{ChainState, DeviceState, reset, reset_device}
@@ -13,7 +13,7 @@ use Rattle.scan_share.proofs.Groups.{group_of_laws}
 use Rattle.virtual_tap.specs.Taps.{VTapState}
 use Rattle.virtual_tap.specs.Views.{TapView, StandsFor, HoldsStages, MovesAs, closed_view}
 use Rattle.client_session.specs.Seats.{Seat, advanced, opens_next}
-use Rattle.client_session.specs.Turns.{Turn, frees, freeing_cost, stepped, scan_length_of, advanced_turn}
+use Rattle.client_session.specs.Turns.{Turn, scan_length_of, advanced_turn}
 use Rattle.client_session.specs.Sessions.{DeskView}
 use Rattle.client_session.specs.Going.{EndsNext, ResetsNext, Follows, Holds, IsShut, Quiet}
 use Rattle.client_session.specs.Desks.{AbandonsScan, Attends, Closed, IsSound, StepsTo, desk_of}

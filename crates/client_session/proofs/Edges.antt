@@ -1,9 +1,9 @@
 -- An edge of TCK at the desk, whatever act asks for it: one that opens and closes no scan, one that closes one, one that opens one, and the
 -- wait before it.
-use Rattle.std.proofs.Common.{◌≡◌, ◌+◌, ℕ, Bool, true, false, not, ◌&&◌, cond, List, refl, ap, sym, ◌∙◌, subst, Some, None}
+use Rattle.std.proofs.Common.{◌≡◌, ℕ, Bool, true, false, not, List, refl, ap, sym, ◌∙◌, subst, Some, None}
 use Rattle.std.specs.declared.option.Option.{Option}
 use Rattle.tap_states.specs.declared.Tap.{Tap}
-use Rattle.tap_states.specs.declared.Tap.TheVariants.{CaptureDr, UpdateDr}
+use Rattle.tap_states.specs.declared.Tap.TheVariants.{UpdateDr}
 use Rattle.tap_states.specs.States.{is_capture_dr, next as next_state}
 use Rattle.scan_bits.specs.Registers.{joined}
 use Rattle.chain_model.specs.Chains.{ChainState}
@@ -13,17 +13,16 @@ use Rattle.chain_token.specs.declared.token.Token.{Token}
 use Rattle.chain_token.specs.declared.token.Asked.TheVariants as asked
 use Rattle.chain_token.specs.Tokens.{Answers, holder, holder_of, waiting}
 use Rattle.chain_token.specs.Waiting.{may_open, with_waiting, without}
-use Rattle.scan_share.specs.Scans.{code_list, contents_of, types_of, Captures, Updates, IsWhole}
+use Rattle.scan_share.specs.Scans.{code_list, contents_of, types_of, Updates, IsWhole}
 use Rattle.scan_share.specs.Timing.{may_scan, IsTimed}
 use Rattle.scan_share.specs.Views.{ParkedView, OpenView}
 use Rattle.scan_share.proofs.Groups.{group_of_laws}
 use Rattle.virtual_tap.specs.Taps.{VTapState, ScansAt, at_update, ends_scan}
 use Rattle.virtual_tap.specs.Views.{TapView, StandsFor, HoldsStages, MovesAs, at_capture, closed_view, opened_view}
-use Rattle.virtual_tap.proofs.CaptureEdge.{capture_edge}
-use Rattle.client_session.specs.Seats.{Seat, advanced, after_tck, opens_next}
-use Rattle.client_session.specs.Turns.{Turn, frees, freeing_cost, stepped, captured, put_in_line, scan_length_of, advanced_turn}
-use Rattle.client_session.specs.Sessions.{DeskView, KeepsChain}
-use Rattle.client_session.specs.Going.{Follows, Holds, Quiet}
+use Rattle.client_session.specs.Seats.{Seat, advanced, opens_next}
+use Rattle.client_session.specs.Turns.{Turn, put_in_line, scan_length_of, advanced_turn}
+use Rattle.client_session.specs.Sessions.{DeskView}
+use Rattle.client_session.specs.Going.{Follows}
 use Rattle.client_session.specs.Desks.{Attends, Closed, Opened, IsSound, desk_of, scan_on}
 use Rattle.client_session.specs.Edges.{AfterEdge, EdgesTo, MakesEdge}
 use Rattle.client_session.proofs.Untouched.{rise_contents, rise_codes, rise_scan, rise_types, fall_contents, fall_codes, fall_types}

@@ -1,5 +1,5 @@
 -- The lines that a session of remote_bitbang sets, beside the act of its seat.
-use Rattle.std.proofs.Common.{◌≡◌, ◌≤◌, ◌+◌, ◌-◌, ℕ, Bool, true, false, not, ◌&&◌, ◌⊎◌, cond, List, [], ◌∷◌, ◌++◌, drop, length, refl, ap, sym, ◌∙◌, subst, inl, inr, Some, None}
+use Rattle.std.proofs.Common.{◌≡◌, ◌-◌, ℕ, Bool, true, false, not, ◌&&◌, ◌⊎◌, cond, List, [], ◌∷◌, ◌++◌, drop, length, refl, ap, sym, ◌∙◌, subst, inl, inr, Some, None}
 use Rattle.std.specs.declared.option.Option.{Option}
 use Rattle.std.proofs.Math.Bool.{beq}
 use Rattle.tap_states.specs.States.{is_capture_dr}
@@ -19,16 +19,16 @@ use Rattle.client_session.specs.declared.progress.Progress.{Progress}
 use Rattle.client_session.specs.Acts.{Act}
 use Rattle.client_session.specs.Acts.Act.{SetLines, SetTrst}
 use Rattle.client_session.specs.Seats.{Seat, acted, advanced, after_tck, opens_next, rises_next}
-use Rattle.client_session.specs.Turns.{Turn, advanced_turn, freeing_cost, is_among}
+use Rattle.client_session.specs.Turns.{Turn, advanced_turn, freeing_cost}
 use Rattle.client_session.specs.Sessions.{DeskView}
-use Rattle.client_session.specs.Stores.{KeepsProgress, acts_of, protocol_of, replied, reply_of, sampled_of, unused_of}
-use Rattle.client_session.specs.Going.{Follows, Holds, IsShut, ResetsNext}
+use Rattle.client_session.specs.Stores.{acts_of, protocol_of, reply_of, sampled_of}
+use Rattle.client_session.specs.Going.{Holds, ResetsNext}
 use Rattle.client_session.specs.Desks.{Attends, IsSound, StepsTo, desk_of}
-use Rattle.client_session.specs.Calls.{ComesTo, IsToAct, LinesTo, ShowsSeat, ShowsTap, WaitsThere}
-use Rattle.client_session.specs.Edges.{AfterEdge, EdgesTo, MakesEdge, SameLetters}
+use Rattle.client_session.specs.Calls.{ComesTo, IsToAct, ShowsSeat, WaitsThere}
+use Rattle.client_session.specs.Edges.{EdgesTo, MakesEdge, SameLetters}
 use Rattle.client_session.proofs.Answering.{one_act}
 use Rattle.client_session.proofs.Quietly.{no_rise_next, still_step, still_turn}
-use Rattle.client_session.proofs.Resting.{as_is, holds_step}
+use Rattle.client_session.proofs.Resting.{as_is}
 use Rattle.client_session.proofs.Attending.{follows_quiet}
 
 never : {A : Type 0} → false ≡ true → A

@@ -5,7 +5,7 @@ use Rattle.scan_share.specs.Scans.{code_list, contents_of}
 use Rattle.tap_states.specs.States.{is_capture_dr}
 use Rattle.client_session.specs.Acts.{Act}
 use Rattle.client_session.specs.Seats.{Seat, acted, advanced, opens_next, rises_next}
-use Rattle.client_session.specs.Turns.{LayoutShape, Turn, frees, freeing_cost, scan_length_of, stepped, advanced_turn, advanced_turns, gone_on}
+use Rattle.client_session.specs.Turns.{LayoutShape, Turn, frees, freeing_cost, scan_length_of, advanced_turn, advanced_turns, gone_on}
 use Rattle.client_session.specs.Going.{Holds, Quiet, Leads, GoesTo}
 use Rattle.client_session.proofs.Answering.{one_act}
 use Rattle.client_session.proofs.Resting.{as_is, holds_step, gone_on-advanced}

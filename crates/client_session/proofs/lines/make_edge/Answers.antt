@@ -1,4 +1,4 @@
-use Rattle.std.proofs.Common.{◌≡◌, ◌∙◌, ap, not, sym, subst}
+use Rattle.std.proofs.Common.{◌∙◌, not, sym, subst}
 use Rattle.virtual_tap.specs.Taps.{ScansAt}
 use Rattle.client_session.specs.Desks.{cable_of}
 use Rattle.client_session.proofs.Edges.{rise_edge}

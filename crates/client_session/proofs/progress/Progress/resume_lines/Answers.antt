@@ -1,4 +1,4 @@
-use Rattle.std.proofs.Common.{◌≡◌, subst, true, false, [], ◌∷◌}
+use Rattle.std.proofs.Common.{subst, true}
 use Rattle.client_session.specs.Acts.Act.{SetLines}
 use Rattle.client_session.specs.Calls.{IsToAct, ShowsSeat}
 use Rattle.client_session.specs.Desks.{Attends, cable_of}

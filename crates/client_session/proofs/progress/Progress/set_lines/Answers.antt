@@ -1,4 +1,4 @@
-use Rattle.std.proofs.Common.{◌≡◌, ◌∙◌, ap, inl, inr, not, subst, sym, true, false, [], ◌∷◌}
+use Rattle.std.proofs.Common.{◌≡◌, ◌∙◌, ap, inl, inr, subst, sym, true, [], ◌∷◌}
 use Rattle.client_session.specs.Acts.Act.{SetLines}
 use Rattle.client_session.specs.Desks.{Attends, cable_of}
 use Rattle.client_session.specs.Edges.{EdgesTo, MakesEdge}
