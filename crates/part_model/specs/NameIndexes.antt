@@ -1,22 +1,27 @@
 -- Names with a value each.
-use Rattle.std.specs.Prelude.{ℕ, List, ◌≡◌, length}
+use Rattle.std.specs.Prelude.{ℕ, Bool, true, not, ◌+◌, ◌*◌, ◌%◌, ◌^◌, List, [], ◌∷◌, ◌≡◌, length}
 use Rattle.std.specs.Borrow.{Bor}
 use Rattle.std.specs.BTreeMap.{get_by}
 use Rattle.std.specs.Cmp.Lexicographic.{slice_cmp}
-use Rattle.std.specs.Ordering.{nat_cmp}
+use Rattle.std.specs.Ordering.{nat_cmp, ordering_then}
 use Rattle.std.specs.Option.{is_some, option_map, unwrap_or}
 use Rattle.std.specs.declared.option.Option.{Option}
 use Rattle.part_model.specs.declared.name_index.NameIndex.{NameIndex}
 use Rattle.part_model.specs.Parts.{NamedRegister}
 use Rattle.part_model.specs.Plans.{AccessEntry, is_listed, length_named, mentioned, place_of_name}
 
+-- the hash of a name, from that of the bytes before it
+unfoldable pub hash_from : ℕ → List ℕ → ℕ
+hash_from hash [] = hash
+hash_from hash (byte ∷ bytes) = hash_from ((hash * 1000003 % 2 ^ 64 + byte) % 2 ^ 64) bytes
+
 -- the value of a name, where it has one
 abbrev pub value_of : {V : Type 0} → NameIndex V → List ℕ → Option V
-value_of index name = get_by (λ key. slice_cmp nat_cmp name key.now) index.values
+value_of index name = get_by (λ key. ordering_then (nat_cmp (hash_from 0 name) key.0) (slice_cmp nat_cmp name key.1.now)) index.values
 
--- the names that have a value are these
-pub record Lists {V : Type 0} (names : List (List ℕ)) (index : NameIndex V) : Type 0 where
-  pub are : (name : List ℕ) → is_some (value_of index name) ≡ is_listed name names
+-- of the instructions that accesses name, those have a value that are none of these names
+pub record Lack {V : Type 0} (accesses : List AccessEntry) (names : List (List ℕ)) (index : NameIndex V) : Type 0 where
+  pub are : (name : List ℕ) → is_some (mentioned accesses name) ≡ true → is_some (value_of index name) ≡ not (is_listed name names)
 
 -- the length of each known register is the value of its name
 pub record Lengths (known : List NamedRegister) (index : NameIndex ℕ) : Type 0 where

@@ -7,10 +7,22 @@ ghost use Rattle.part_model.specs.Parts as parts;
 use std::alloc::{AllocError, Global};
 use std::collections::BTreeMap;
 
-// The value that was first added for each name.
+// The value that was first added for each name. A name stands behind its hash, so that mostly two numbers are compared.
 #[derive(Drop)]
 pub struct NameIndex<'a, V: Drop> {
-    values: BTreeMap<&'a str, V>,
+    values: BTreeMap<(u64, &'a str), V>,
+}
+
+// The hash of a name: its bytes as digits to the base 1,000,003, the lowest 64 bits of that number.
+#[tactic(auto, unfolding(crate::specs::NameIndexes::hash_from))]
+fn hash(name: &[u8]) -> u64
+    ensures { result ≡ indexes.hash_from 0 name.now }
+{
+    let mut hash: u64 = 0;
+    for byte in name {
+        hash = hash.wrapping_mul(1_000_003).wrapping_add(u64::from(*byte));
+    }
+    hash
 }
 
 impl<'a, V: Copy + Drop> NameIndex<'a, V> {
@@ -24,17 +36,26 @@ impl<'a, V: Copy + Drop> NameIndex<'a, V> {
     }
 
     // The value of a name.
-    pub fn find(&self, name: &str) -> Option<V>
+    pub fn find(&self, name: &'a str) -> Option<V>
         ensures { result ≡ indexes.value_of self.now name.now }
     {
-        self.values.get(name).copied()
+        self.values.get(&(hash(name.as_bytes()), name)).copied()
     }
 
     // A value for a name that has none yet.
     pub fn add(&mut self, name: &'a str, value: V) -> Result<(), AllocError>
         ensures { OnOk result ((other : List ℕ) → indexes.value_of self.new other ≡ option_or (indexes.value_of self.old other) (if parts.same_name other name.now then Some value else None)) }
     {
-        self.values.entry(name)?.or_insert(value);
+        let key = (hash(name.as_bytes()), name);
+        self.values.entry(key)?.or_insert(value);
         Ok(())
+    }
+
+    // No value for a name.
+    pub fn remove(&mut self, name: &'a str)
+        ensures { (other : List ℕ) → indexes.value_of self.new other ≡ (if parts.same_name other name.now then None else indexes.value_of self.old other) }
+    {
+        let key = (hash(name.as_bytes()), name);
+        self.values.remove(&key);
     }
 }

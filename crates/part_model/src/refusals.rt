@@ -1,6 +1,7 @@
 // Which plans are refused, and the first cause.
-ghost use Rattle.std.specs.Prelude.{◌≡◌, ℕ, List, ◌<◌, ◌-◌, ◌^◌, not, ◌||◌, [], length, map, codes, if◌then◌else◌, IfOk, IfErr, None};
+ghost use Rattle.std.specs.Prelude.{◌≡◌, ℕ, List, ◌<◌, ◌-◌, ◌^◌, not, ◌||◌, [], ◌∷◌, length, map, codes, if◌then◌else◌, IfOk, IfErr, None};
 ghost use Rattle.std.specs.List.{list_any};
+ghost use Rattle.std.specs.Option.{is_some};
 ghost use Rattle.part_model.specs.NameIndexes as indexes;
 ghost use Rattle.part_model.specs.Parts as parts;
 ghost use Rattle.part_model.specs.Plans as plans;
@@ -8,6 +9,7 @@ ghost use Rattle.part_model.specs.Plans as plans;
 use crate::name_index::NameIndex;
 use crate::names::{same_name, spelled};
 use crate::plan::{Access, Opcode, PartPlan, PartRefusal, Pattern, PlanRefusal};
+use crate::register_index::mentioned;
 use crate::registers::{DataRegister, KnownRegisters, mention};
 use crate::{Digit, Field};
 use base_types::Text;
@@ -102,7 +104,7 @@ fn captures_01(digits: &[Digit]) -> bool
 }
 
 // The length that a register has before an access.
-fn known_length(plan: &PartPlan, known: &KnownRegisters<'_>, name: &str) -> Option<u32>
+fn known_length<'a>(plan: &PartPlan, known: &KnownRegisters<'a>, name: &'a str) -> Option<u32>
     requires { indexes.Lengths (parts.named_of known.now.registers.items) known.now.lengths }
     ensures { result ≡ plans.known_length plan.now (parts.named_of known.now.registers.items) name.now }
 {
@@ -151,26 +153,38 @@ pub fn has_opcode(opcodes: &[Opcode], name: &[u8]) -> bool
     false
 }
 
-// The names of the opcodes.
-fn opcode_names(alloc: Global, opcodes: &[Opcode]) -> Result<NameIndex<'_, ()>, AllocError>
-    ensures { IfOk result (indexes.Lists (map (λ opcode. opcode.name) opcodes.now)) }
+// The instructions that accesses name and that have no opcode.
+fn without_opcode<'a>(
+    alloc: Global,
+    accesses: &'a [Access],
+    opcodes: &'a [Opcode],
+) -> Result<NameIndex<'a, &'a Text>, AllocError>
+    ensures { IfOk result (indexes.Lack accesses.now (map (λ opcode. opcode.name) opcodes.now)) }
 {
-    let mut names = NameIndex::new(alloc);
+    let mut instructions = mentioned(alloc, accesses)?;
     for opcode in opcodes {
-        names.add(opcode.name.as_str(), ())?;
+        instructions.remove(opcode.name.as_str());
     }
-    Ok(names)
+    Ok(instructions)
 }
 
-fn any_without_opcode(instructions: &[Text], opcodes: &NameIndex<'_, ()>) -> bool
-    ensures { (names : List (List ℕ)) → indexes.Lists names opcodes.now → result ≡ list_any (λ instruction. not (plans.is_listed instruction names)) instructions.now }
+// Whether one of these names has a value.
+fn any_found<'a>(names: &'a [Text], index: &NameIndex<'a, &'a Text>) -> bool
+    ensures { result ≡ list_any (λ name. is_some (indexes.value_of index.now name)) names.now }
 {
-    for instruction in instructions {
-        if opcodes.find(instruction.as_str()).is_none() {
+    for name in names {
+        if index.find(name.as_str()).is_some() {
             return true;
         }
     }
     false
+}
+
+// Whether an access names an instruction that has no opcode.
+fn names_without_opcode<'a>(access: &'a Access, without: &NameIndex<'a, &'a Text>) -> bool
+    ensures { (names : List (List ℕ)) → indexes.Lack (access.now ∷ []) names without.now → result ≡ list_any (λ instruction. not (plans.is_listed instruction names)) access.now.instructions }
+{
+    any_found(access.instructions.as_slice(), without)
 }
 
 fn differs(known: Option<u32>, stated: Option<u32>) -> bool
@@ -183,14 +197,14 @@ fn differs(known: Option<u32>, stated: Option<u32>) -> bool
 }
 
 // The first cause in one access.
-fn access_refusal(
+fn access_refusal<'a>(
     plan: &PartPlan,
-    opcodes: &NameIndex<'_, ()>,
-    known: &KnownRegisters<'_>,
-    access: &Access,
+    without: &NameIndex<'a, &'a Text>,
+    known: &KnownRegisters<'a>,
+    access: &'a Access,
 ) -> Option<PlanRefusal>
     requires lengths { indexes.Lengths (parts.named_of known.now.registers.items) known.now.lengths }
-    requires opcodes { indexes.Lists (map (λ opcode. opcode.name) plan.now.opcodes) opcodes.now }
+    requires without { indexes.Lack (access.now ∷ []) (map (λ opcode. opcode.name) plan.now.opcodes) without.now }
     ensures { result ≡ plans.access_refusal plan.now (parts.named_of known.now.registers.items) access.now }
 {
     let length = known_length(plan, known, access.register.as_str());
@@ -210,7 +224,7 @@ fn access_refusal(
         return refuse(7, Field::RegisterAccess);
     }
     refuse_if(
-        any_without_opcode(access.instructions.as_slice(), opcodes),
+        names_without_opcode(access, without),
         9,
         Field::RegisterAccess,
     )
@@ -234,6 +248,7 @@ pub fn code_refusal(plan: &PartPlan) -> Option<PlanRefusal>
 }
 
 // The named registers of the accesses, or the first cause in them.
+#[tactic(auto, using(crate::proofs::NameIndexLaws::first_lack, crate::proofs::NameIndexLaws::rest_lack))]
 pub fn named_registers(alloc: Global, plan: &PartPlan) -> Result<Vec<DataRegister>, PartRefusal>
     ensures accepted { IfOk result (λ named. plans.accesses_refusal plan.now [] plan.now.access ≡ None) }
     ensures named { IfOk result (λ named. parts.named_of named.items ≡ plans.named_registers plan.now.access) }
@@ -243,13 +258,13 @@ pub fn named_registers(alloc: Global, plan: &PartPlan) -> Result<Vec<DataRegiste
     if plan.access.is_empty() {
         return Ok(Vec::new(alloc));
     }
-    let opcodes = opcode_names(alloc, plan.opcodes.as_slice())?;
+    let without = without_opcode(alloc, plan.access.as_slice(), plan.opcodes.as_slice())?;
     let mut known = KnownRegisters {
         registers: Vec::new(alloc),
         lengths: NameIndex::new(alloc),
     };
     for access in plan.access.as_slice() {
-        if let Some(refusal) = access_refusal(plan, &opcodes, &known, access) {
+        if let Some(refusal) = access_refusal(plan, &without, &known, access) {
             return Err(refusal.into());
         }
         mention(alloc, &mut known, access)?;

@@ -37,7 +37,7 @@ impl<'a> RegisterIndex<'a> {
     }
 
     // The register that an instruction selects.
-    pub fn register_for(&self, named: &[DataRegister], instruction: &str) -> u32
+    pub fn register_for(&self, named: &[DataRegister], instruction: &'a str) -> u32
         requires few { length named.now < 2 ^ 32 - 4 }
         requires places { indexes.Places (parts.named_of named.now) self.now.places }
         ensures is { (accesses : List plans.AccessEntry) → indexes.Mentions accesses self.now.mentioned → parts.named_of named.now ≡ plans.named_registers accesses → parts.numbered result ≡ plans.register_for accesses instruction.now }
@@ -92,7 +92,7 @@ pub fn places<'a>(
 }
 
 // The place of a name, or the count of registers where it is none of them.
-fn place_of_name(places: &NameIndex<'_, u32>, named: &[DataRegister], name: &str) -> u32
+fn place_of_name<'a>(places: &NameIndex<'a, u32>, named: &[DataRegister], name: &'a str) -> u32
     requires few { length named.now < 2 ^ 32 - 4 }
     requires places { indexes.Places (parts.named_of named.now) places.now }
     ensures is { result ≡ plans.place_of_name (parts.named_of named.now) name.now }
@@ -103,11 +103,11 @@ fn place_of_name(places: &NameIndex<'_, u32>, named: &[DataRegister], name: &str
 }
 
 // The register of a name, for an instruction.
-fn register_named(
-    places: &NameIndex<'_, u32>,
+fn register_named<'a>(
+    places: &NameIndex<'a, u32>,
     named: &[DataRegister],
     instruction: &str,
-    name: &Text,
+    name: &'a Text,
 ) -> u32
     requires few { length named.now < 2 ^ 32 - 4 }
     requires places { indexes.Places (parts.named_of named.now) places.now }

@@ -36,7 +36,7 @@ pub struct KnownRegisters<'a> {
 }
 
 // Whether a register is among these.
-fn is_known(name: &str, known: &KnownRegisters<'_>) -> bool
+fn is_known<'a>(name: &'a str, known: &KnownRegisters<'a>) -> bool
     requires { indexes.Lengths (parts.named_of known.now.registers.items) known.now.lengths }
     ensures { result ≡ plans.is_listed name.now (plans.names_known (parts.named_of known.now.registers.items)) }
 {

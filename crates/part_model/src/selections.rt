@@ -1,9 +1,8 @@
 // Instructions with the registers that they select.
-ghost use Rattle.std.specs.Prelude.{◌≡◌, ℕ, List, ◌≤◌, ◌<◌, ◌+◌, ◌-◌, ◌^◌, true, false, length, map, IfOk, IfSome};
-ghost use Rattle.std.specs.List.{list_any};
+ghost use Rattle.std.specs.Prelude.{◌≡◌, ℕ, List, ◌≤◌, ◌<◌, ◌+◌, ◌-◌, ◌^◌, nat_lt, true, false, length, map, IfOk, IfSome};
+ghost use Rattle.std.specs.List.{list_any, list_all};
 ghost use Rattle.std.specs.Option.{option_map};
 ghost use Rattle.scan_bits.specs.Words.{bits_of};
-ghost use Rattle.part_model.specs.NameIndexes as indexes;
 ghost use Rattle.part_model.specs.Parts as parts;
 ghost use Rattle.part_model.specs.Plans as plans;
 
@@ -24,29 +23,45 @@ pub struct Selection {
     pub register: u32,
 }
 
-// The instruction of an opcode, with its name and its patterns of so many digits.
+// The instruction of an opcode, with its name and its patterns of so many digits, and the register that it selects.
 fn selection_of(
     alloc: Global,
     count: u32,
     opcode: Opcode,
-    registers: &RegisterIndex<'_>,
-    named: &[DataRegister],
+    register: u32,
 ) -> Result<Selection, AllocError>
     requires most { count ≤ 64 }
     requires lengths { list_any (plans.wrong_length count) opcode.patterns ≡ false }
     requires patterns { 0 < length opcode.patterns }
-    requires few { length named.now < 2 ^ 32 - 4 }
-    requires places { indexes.Places (parts.named_of named.now) registers.now.places }
-    ensures is { (accesses : List plans.AccessEntry) → indexes.Mentions accesses registers.now.mentioned → parts.named_of named.now ≡ plans.named_registers accesses → IfOk result (λ selection. parts.instruction_of selection ≡ plans.opcode_of accesses opcode) }
-    ensures within { (accesses : List plans.AccessEntry) → indexes.Mentions accesses registers.now.mentioned → parts.named_of named.now ≡ plans.named_registers accesses → IfOk result (λ selection. selection.register < 4 + length named.now) }
+    ensures is { IfOk result (λ selection. parts.instruction_of selection ≡ record { name = opcode.name; patterns = opcode.patterns; register = parts.numbered register }) }
+    ensures register { IfOk result (λ selection. selection.register ≡ register) }
 {
-    let register = registers.register_for(named, opcode.name.as_str());
     let patterns = CodePatterns::pack(alloc, count, opcode.patterns.as_slice())?;
     Ok(Selection {
         name: opcode.name,
         patterns,
         register,
     })
+}
+
+// The numbers of the registers that the opcodes select, in order.
+fn selected_registers<'a>(
+    alloc: Global,
+    opcodes: &'a [Opcode],
+    accesses: &'a [Access],
+    named: &'a [DataRegister],
+) -> Result<Vec<u32>, AllocError>
+    requires few { length named.now < 2 ^ 32 - 4 }
+    requires named { parts.named_of named.now ≡ plans.named_registers accesses.now }
+    ensures are { IfOk result (λ found. map parts.numbered found.items ≡ map (λ opcode. plans.register_for accesses.now opcode.name) opcodes.now) }
+    ensures within { IfOk result (λ found. list_all (λ register. nat_lt register (4 + length named.now)) found.items ≡ true) }
+{
+    let index = RegisterIndex::new(alloc, accesses, named)?;
+    let mut found = Vec::with_capacity(alloc, opcodes.len())?;
+    for opcode in opcodes {
+        found.push(index.register_for(named, opcode.name.as_str()))?;
+    }
+    Ok(found)
 }
 
 // The instructions of all opcodes, in order, whose patterns have so many digits.
@@ -65,10 +80,11 @@ pub fn selections(
     ensures are { IfOk result (λ found. parts.instructions_of found.items ≡ map (plans.opcode_of accesses.now) opcodes.items) }
     ensures within { IfOk result (λ found. parts.all_below (4 + length named.now) found.items ≡ true) }
 {
-    let registers = RegisterIndex::new(alloc, accesses, named)?;
+    let registers = selected_registers(alloc, opcodes.as_slice(), accesses, named)?;
     let mut found = Vec::with_capacity(alloc, opcodes.len())?;
     for opcode in opcodes {
-        found.push(selection_of(alloc, count, opcode, &registers, named)?)?;
+        let register = registers[found.len()];
+        found.push(selection_of(alloc, count, opcode, register)?)?;
     }
     Ok(found)
 }

@@ -1,5 +1,5 @@
-use Rattle.std.proofs.Common.{◌≡◌, ◌<◌, ◌-◌, ◌^◌, [], drop, length}
-use Rattle.part_model.specs.NameIndexes.{Lengths}
+use Rattle.std.proofs.Common.{◌≡◌, ◌<◌, ◌-◌, ◌^◌, [], drop, map, length}
+use Rattle.part_model.specs.NameIndexes.{Lack, Lengths}
 use Rattle.part_model.specs.Parts.{named_of}
 use Rattle.part_model.specs.Plans.{accesses_refusal, named_after}
 use Rattle.part_model.proofs.refusals.named_registers.Given as goal
@@ -9,3 +9,4 @@ invariant-loop-access l = (length l.known.registers.items < 2 ^ 32 - 4)
     × (accesses_refusal l.plan (named_of l.known.registers.items) (drop l.access-index l.plan.access) ≡ accesses_refusal l.plan [] l.plan.access)
     × (named_after (named_of l.known.registers.items) (drop l.access-index l.plan.access) ≡ named_after [] l.plan.access)
     × Lengths (named_of l.known.registers.items) l.known.lengths
+    × Lack (drop l.access-index l.plan.access) (map (λ opcode. opcode.name) l.plan.opcodes) l.without
