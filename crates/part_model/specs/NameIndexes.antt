@@ -1,5 +1,5 @@
 -- Names with a value each.
-use Rattle.std.specs.Prelude.{ℕ, Bool, true, not, ◌+◌, ◌*◌, ◌%◌, ◌^◌, List, [], ◌∷◌, ◌≡◌, length}
+use Rattle.std.specs.Prelude.{ℕ, true, not, ◌+◌, ◌*◌, ◌%◌, ◌^◌, List, [], ◌∷◌, ◌≡◌, length}
 use Rattle.std.specs.Borrow.{Bor}
 use Rattle.std.specs.BTreeMap.{get_by}
 use Rattle.std.specs.Cmp.Lexicographic.{slice_cmp}

@@ -1,4 +1,4 @@
-use Rattle.std.proofs.Common.{◌≡◌, ◌∷◌, ◌+◌, ℕ, List, [], drop, map, rules, arith, subst}
+use Rattle.std.proofs.Common.{◌≡◌, ◌∷◌, ◌+◌, List, [], drop, map, rules, arith, subst}
 use Rattle.std.proofs.lemmas.Grind.{common_steps}
 use Rattle.part_model.specs.NameIndexes.{Lack}
 use Rattle.part_model.specs.Parts.{named_of}
