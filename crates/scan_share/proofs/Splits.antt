@@ -3,9 +3,9 @@ use Rattle.std.proofs.Common.{◌≡◌, ◌≢◌, ◌≤◌, ◌<◌, ◌+◌,
 use Rattle.std.specs.declared.option.Option.{Option}
 use Rattle.std.specs.Prelude.{slice_get, nat_lt}
 use Rattle.std.specs.Option.{option_map}
-use Rattle.std.specs.List.{All, slice_index_or}
+use Rattle.std.specs.List.{All, cons_option, slice_index_or}
 use Rattle.std.proofs.lemmas.Bool.{cases_lt, eq-eqb, ltb-false}
-use Rattle.std.proofs.lemmas.List.{length-map, append-nil}
+use Rattle.std.proofs.lemmas.List.{length-map, append-nil, replicate-append-replicate}
 use Rattle.std.proofs.lemmas.Option.{same_Some, slice_get-map, slice_get_within}
 use Rattle.grant_table.specs.Layouts.{first_place}
 use Rattle.grant_table.specs.Apart.{RisesFrom}
@@ -14,13 +14,13 @@ use Rattle.part_model.specs.Plans.{IsPart}
 use Rattle.scan_bits.specs.Words.{bits_of}
 use Rattle.scan_share.specs.Written.{group_widths}
 use Rattle.scan_share.specs.Scans.{code_during, codes_of, widths_during}
-use Rattle.scan_share.specs.Rows.{ScanView, IsScanOf, IsSplit, IsRow, own_codes, scan_words, marks_below, marks_left}
+use Rattle.scan_share.specs.Rows.{ScanView, IsScanOf, IsSplit, IsRow, IsNext, own_codes, scan_words, marks_below, marks_left}
 use Rattle.scan_share.proofs.Groups.{rising_apart}
 use Rattle.scan_share.specs.PrivateChains.{entries_at}
 use Rattle.scan_share.proofs.CodeWords.{drop_at, drop_past}
 use Rattle.scan_share.proofs.Lookups.{some_none, found, placed, code_or, code_during_is, entry_at, entry_past, entry_within, length-entries_at, same_entries}
 use Rattle.scan_share.proofs.Wide.{width_some}
-use Rattle.scan_share.proofs.Places.{or_at, read_at, all_at, own_code, code_at, width_at, width_count, length-words}
+use Rattle.scan_share.proofs.Places.{or_at, read_at, all_at, own_code, code_at, width_at, width_count, length-scan_words, length-words}
 
 -- ---- groups whose places rise
 
@@ -110,6 +110,24 @@ own_word scan own place is lt here =
     own_code scan place own (slice_index_or scan.codes own 0) (part.0) is (part.1) (found scan.group (rising_apart 0 scan.group is.rising) own place here)
     (read_at scan.codes own 0 (own_counted scan own place is here))
 
+-- at the group's places stand its own codes
+pub own_back : (scan : ScanView) → IsScanOf scan.layout scan.group scan.codes → entries_at (scan_words scan) scan.group ≡ scan.codes
+own_back scan is = same_entries (entries_at (scan_words scan) scan.group) scan.codes (λ i. elim (cases_lt i (length scan.group)) [ inl lt ↦ inside i lt (entry_within scan.group i lt) | inr ge ↦ past i ge ])
+  where
+    within : (g place : ℕ) → slice_get scan.group g ≡ Some place → place < length (scan_words scan)
+    within g place here = omega (arith, all_at (λ k. k < length scan.layout.parts) scan.group is.within g place here, length-scan_words scan)
+
+    inside : (i : ℕ) → i < length scan.group → (place : ℕ) × (slice_get scan.group i ≡ Some place) → slice_get (entries_at (scan_words scan) scan.group) i ≡ slice_get scan.codes i
+    inside i lt at =
+        entry_at (scan_words scan) scan.group within i (at.0) (at.1)
+        ∙ own_word scan i (at.0) is (all_at (λ k. k < length scan.layout.parts) scan.group is.within i (at.0) (at.1)) (at.1)
+        ∙ sym (read_at scan.codes i 0 (omega (arith, lt, scan_coded scan is)))
+
+    past : (i : ℕ) → length scan.group ≤ i → slice_get (entries_at (scan_words scan) scan.group) i ≡ slice_get scan.codes i
+    past i ge =
+        entry_past (entries_at (scan_words scan) scan.group) i (omega (arith, ge, length-entries_at (scan_words scan) scan.group within))
+        ∙ sym (entry_past scan.codes i (omega (arith, ge, scan_coded scan is)))
+
 -- the words of the first devices are there
 pub record Begun (done all : List ℕ) (at : ℕ) : Type 0 where
   pub is : done ++ drop at all ≡ all
@@ -129,6 +147,30 @@ more_begun done all at x begun here = record {
 
 pub all_begun : (done all : List ℕ) (at : ℕ) → Begun done all at → length all ≤ at → done ≡ all
 all_begun done all at begun le = sym (append-nil done) ∙ ap (λ r. done ++ r) (sym (drop_past all at le)) ∙ begun.is
+
+-- the entries at the first places are there
+pub record Picked (done all places : List ℕ) (at : ℕ) : Type 0 where
+  pub whole : done ++ entries_at all (drop at places) ≡ entries_at all places
+  pub few : length done ≤ at
+
+entries_next : (all places : List ℕ) (at place : ℕ) → slice_get places at ≡ Some place → entries_at all (drop at places) ≡ cons_option (slice_get all place) (entries_at all (drop (at + 1) places))
+entries_next all places at place here = ap (entries_at all) (drop_at places at place here) ∙ ap (λ n. cons_option (slice_get all place) (entries_at all (drop n places))) next
+  where
+    next : suc at ≡ at + 1
+    next = omega arith
+
+pub one_picked : (done all places : List ℕ) (at place x : ℕ) → Picked done all places at → slice_get places at ≡ Some place → slice_get all place ≡ Some x → Picked (done ++ x ∷ []) all places (at + 1)
+one_picked done all places at place x picked here is = record {
+  whole = append_assoc done (x ∷ []) (entries_at all (drop (at + 1) places))
+      ∙ ap (λ o. done ++ cons_option o (entries_at all (drop (at + 1) places))) (sym is) ∙ ap (λ q. done ++ q) (sym (entries_next all places at place here)) ∙ picked.whole;
+  few = omega (arith, length-append done (x ∷ []), picked.few);
+}
+
+pub none_picked : (done all places : List ℕ) (at place : ℕ) → Picked done all places at → slice_get places at ≡ Some place → slice_get all place ≡ None → Picked done all places (at + 1)
+none_picked done all places at place picked here is = record {
+  whole = ap (λ o. done ++ cons_option o (entries_at all (drop (at + 1) places))) (sym is) ∙ ap (λ q. done ++ q) (sym (entries_next all places at place here)) ∙ picked.whole;
+  few = omega (arith, picked.few);
+}
 
 -- ---- from the last device on
 
@@ -160,16 +202,12 @@ end_low group own place end split none some bound = elim (cases_lt 0 own) [
 ]
 
 -- where a device is left and no other one, it is one of the group
-pub record IsNext (group : List ℕ) (own place : ℕ) : Type 0 where
-  pub some : 1 ≤ own
-  pub here : slice_get group (own - 1) ≡ Some (place - 1)
-
 pub is_next : (group : List ℕ) (own place end : ℕ) → IsSplit group own place → (own ≡ 0 → end ≡ 0) → (1 ≤ own → slice_get group (own - 1) ≡ Some (end - 1)) → (1 ≤ own → 1 ≤ end)
     → 1 ≤ place → place ≤ end → IsNext group own place
 is_next group own place end split none some bound left le = elim (cases_lt 0 own) [
   | inl lt ↦
       let same : end - 1 ≡ place - 1 = omega (arith, le, end_low group own place end split none some bound) in
-      record { some = omega (arith, lt); here = some (omega (arith, lt)) ∙ ap Some same }
+      record { some = omega (arith, lt); left = left; here = some (omega (arith, lt)) ∙ ap Some same }
   | inr ge ↦ absurd (omega (arith, left, le, none (omega (arith, ge))))
 ]
 
@@ -285,11 +323,44 @@ end_marks group widths own place end count is_own row used none some bound le =
 pub next_width : (group widths : List ℕ) (own place : ℕ) → IsRow group widths own place → IsNext group own place → slice_get widths (own - 1) ≡ Some (slice_index_or widths (own - 1) 0)
 next_width group widths own place row next = read_at widths (own - 1) 0 (omega (arith, row.counted, row.within, next.some))
 
-pub own_marks : (group widths : List ℕ) (own place count : ℕ) (is_own : Bool) → IsRow group widths own place → IsNext group own place → count ≡ 0 → 1 ≤ place
-    → marks_left group widths (place - 1) (slice_index_or widths (own - 1) 0) true ≡ marks_left group widths place count is_own
-own_marks group widths own place count is_own row next used left =
-    own_left group widths (own - 1) place (slice_index_or widths (own - 1) 0) row.rising row.counted left next.here (next_width group widths own place row next)
-    ∙ sym (no_run count is_own (marks_below group widths place) used)
+own_run : (count : ℕ) (is_own : Bool) (rest : List Bool) → (1 ≤ count → is_own ≡ true) → replicate count true ++ rest ≡ replicate count is_own ++ rest
+own_run zero is_own rest same = refl
+own_run (suc n) is_own rest same = ap (λ o. replicate (suc n) o ++ rest) (sym (same (omega arith)))
+
+-- a run of the group's own, and the next device's bits behind it
+pub more_marks : (group widths : List ℕ) (own place count : ℕ) (is_own : Bool) → IsRow group widths own place → IsNext group own place → (1 ≤ count → is_own ≡ true)
+    → marks_left group widths (place - 1) (count + slice_index_or widths (own - 1) 0) true ≡ marks_left group widths place count is_own
+more_marks group widths own place count is_own row next same =
+    ap (λ q. q ++ marks_below group widths (place - 1)) (sym (replicate-append-replicate count (slice_index_or widths (own - 1) 0) true))
+    ∙ append_assoc (replicate count true) (replicate (slice_index_or widths (own - 1) 0) true) (marks_below group widths (place - 1))
+    ∙ ap (λ q. replicate count true ++ q)
+    (own_left group widths (own - 1) place (slice_index_or widths (own - 1) 0) row.rising row.counted next.left next.here (next_width group widths own place row next))
+    ∙ own_run count is_own (marks_below group widths place) same
+
+-- a run of the group's own, which is next among the marks
+pub record OwnRun (group widths : List ℕ) (own place bits : ℕ) (is_own : Bool) (all : List Bool) : Type 0 where
+  pub same : marks_left group widths place bits is_own ≡ all
+  pub row : IsRow group widths own place
+  pub some : 1 ≤ bits
+  pub own_is : is_own ≡ true
+
+pub first_run : (group widths : List ℕ) (own place bits : ℕ) (is_own : Bool) → IsRow group widths own place → IsNext group own place → bits ≡ 0
+    → OwnRun group widths (own - 1) (place - 1) (bits + slice_index_or widths (own - 1) 0) true (marks_left group widths place bits is_own)
+first_run group widths own place bits is_own row next used = record {
+  same = more_marks group widths own place bits is_own row next (λ some. absurd (omega (arith, some, used)));
+  row = before_row group widths own place row next;
+  some = let wide = row.wide _ _ (next_width group widths own place row next) in omega (arith, wide);
+  own_is = refl;
+}
+
+pub more_run : (group widths : List ℕ) (own place bits : ℕ) (is_own : Bool) (all : List Bool) → OwnRun group widths own place bits is_own all → IsNext group own place
+    → OwnRun group widths (own - 1) (place - 1) (bits + slice_index_or widths (own - 1) 0) true all
+more_run group widths own place bits is_own all run next = record {
+  same = more_marks group widths own place bits is_own run.row next (λ some. run.own_is) ∙ run.same;
+  row = before_row group widths own place run.row next;
+  some = omega (arith, run.some);
+  own_is = refl;
+}
 
 -- the row of a scan
 pub scan_row : (scan : ScanView) (widths group : List ℕ) (count : ℕ) → IsScanOf scan.layout scan.group scan.codes → widths ≡ group_widths scan.layout scan.group (own_codes scan) → group ≡ scan.group

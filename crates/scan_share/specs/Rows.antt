@@ -77,6 +77,12 @@ pub record IsRow (group widths : List ℕ) (own place : ℕ) : Type 0 where
   pub within : own ≤ length group
   pub split : IsSplit group own place
 
+-- the last of the devices below a place is the last of so many of a group
+pub record IsNext (group : List ℕ) (own place : ℕ) : Type 0 where
+  pub some : 1 ≤ own
+  pub left : 1 ≤ place
+  pub here : slice_get group (own - 1) ≡ Some (place - 1)
+
 -- the bits of the devices below a place in a scan, the last device first: ones for the group's own registers, which have these widths,
 -- and a 0 for each other device, which is in BYPASS
 abbrev pub marks_below : List ℕ → List ℕ → ℕ → List Bool

@@ -50,20 +50,8 @@ pub fn load(layout: &Layout, grant: usize, codes: &[u64], loaded: &mut Codes) ->
     if scan.is_loaded(loaded) {
         return true;
     }
-    *loaded = scan.all_codes();
+    scan.load(loaded);
     false
-}
-
-// The same codes.
-pub fn copy_of(codes: &[u64]) -> Codes
-    requires { length codes.now ≤ 32 }
-    ensures { result.items ≡ codes.now }
-{
-    let mut copy = ArrayVec::new();
-    match copy.try_extend_from_slice(codes) {
-        Ok(()) => copy,
-        Err(_) => unreachable!(),
-    }
 }
 
 // Whether a word is a code of a device type: it has no bits above its instruction register's.
@@ -97,4 +85,19 @@ pub fn are_codes(layout: &Layout, grant: usize, codes: &[u64]) -> bool
 {
     let group = members(layout, grant);
     group.len() == codes.len() && are_group_codes(layout, group, codes)
+}
+
+// Those of the codes that stand at these places.
+pub fn codes_at(codes: &[u64], places: &[u8]) -> Codes
+    requires { length places.now ≤ 32 }
+    ensures { result.items ≡ entries_at codes.now places.now }
+{
+    let mut own = ArrayVec::new();
+    for place in places {
+        let place = usize::from(*place);
+        if place < codes.len() {
+            own.push(codes[place]);
+        }
+    }
+    own
 }

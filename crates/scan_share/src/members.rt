@@ -6,7 +6,11 @@ ghost use Rattle.grant_table.specs.Kept.{AllParts};
 ghost use Rattle.grant_table.specs.Apart.{RisesFrom};
 ghost use Rattle.scan_share.specs.Laws.{IsGroup};
 
+use arrayvec::ArrayVec;
 use grant_table::Layout;
+
+/// Places of devices, rising.
+pub type Places = ArrayVec<u8, 32>;
 
 // The places of a grant's devices, and what the layout says of them.
 pub fn members(layout: &Layout, grant: usize) -> &[usize]
@@ -18,7 +22,21 @@ pub fn members(layout: &Layout, grant: usize) -> &[usize]
     ensures rising { RisesFrom 0 result.now }
     ensures few { length result.now ≤ 32 }
     ensures within { All (λ place. place < length layout.now.parts) result.now }
+    ensures low { All (λ place. place < 32) result.now }
 {
     let _devices = layout.devices();
     layout.group(grant)
+}
+
+// The same places.
+pub fn places_of(group: &[usize]) -> Places
+    requires few { length group.now ≤ 32 }
+    requires low { All (λ place. place < 32) group.now }
+    ensures { result.items ≡ group.now }
+{
+    let mut places = ArrayVec::new();
+    for place in group {
+        places.push(*place as u8);
+    }
+    places
 }

@@ -1,10 +1,11 @@
 // The bits of a scan of data registers, run by run.
-ghost use Rattle.std.specs.Prelude.{◌≡◌, ◌≤◌, ◌<◌, ◌+◌, ◌-◌, ◌++◌, Bool, List, Some, length, replicate, slice_get};
+ghost use Rattle.std.specs.Prelude.{◌≡◌, ◌≤◌, ◌<◌, ◌+◌, ◌-◌, ◌++◌, Bool, List, Some, length, replicate, slice_get, true};
+ghost use Rattle.std.specs.List.{slice_index_or};
 ghost use Rattle.scan_bits.specs.Registers.{joined};
 ghost use Rattle.scan_share.specs.Scans.{group_bits, scan_length, widths_during};
 ghost use Rattle.scan_share.specs.Lengths.{own_length};
 ghost use Rattle.scan_share.specs.Written.{group_widths, written};
-ghost use Rattle.scan_share.specs.Rows.{IsRow, own_codes, scan_codes, own_count, woven, chosen, marks_below, marks_left};
+ghost use Rattle.scan_share.specs.Rows.{IsNext, IsRow, own_codes, scan_codes, own_count, woven, chosen, marks_below, marks_left};
 
 use crate::scan::Scan;
 use std::marker::Model;
@@ -16,13 +17,14 @@ pub struct Run {
     pub count: u32,
 }
 
-/// How far a scan came, from the last device to the first: so many devices are left, so many of the group's among them, and the run
-/// before those.
+/// How far a scan came, from the last device to the first: so many devices are left, so many of the group's among them, and before those
+/// so many bits of a run, which is the group's own or not.
 #[derive(Clone, Copy)]
 pub struct Stand {
     pub place: usize,
     pub own: usize,
-    pub run: Run,
+    pub is_own: bool,
+    pub bits: usize,
 }
 
 /// What is left of a scan of data registers, from the last device, which is nearest TDO, to the first. Contracts see a bit for each bit
@@ -40,7 +42,7 @@ impl<'a> Model for Runs<'a> {
 
     ghost Value = { List Bool };
 
-    ghost view = { λ r. marks_left r.group.now r.widths.now r.stand.place r.stand.run.count r.stand.run.own };
+    ghost view = { λ r. marks_left r.group.now r.widths.now r.stand.place r.stand.bits r.stand.is_own };
 
     ghost invariant = { λ r. IsRow r.group.now r.widths.now r.stand.own r.stand.place };
 }
@@ -59,36 +61,72 @@ fn end_of(group: &[usize], own: usize) -> usize
     group[own - 1] + 1
 }
 
-// Where the run has a bit left: there itself, and else behind the next run, of a device of the group or of all devices before the next
-// one of it.
-fn entered(group: &[usize], widths: &[u32], stand: Stand) -> Stand
-    requires row { IsRow group.now widths.now stand.own stand.place }
-    requires left { 1 ≤ length (marks_left group.now widths.now stand.place stand.run.count stand.run.own) }
-    ensures same { marks_left group.now widths.now result.place result.run.count result.run.own ≡ marks_left group.now widths.now stand.place stand.run.count stand.run.own }
-    ensures row { IsRow group.now widths.now result.own result.place }
-    ensures some { 1 ≤ result.run.count }
+// Whether a run of the group's own goes on with the last of the devices that are left: it is of the group, and the run has fewer bits
+// than a word.
+fn goes_on(group: &[usize], run: Stand) -> bool
+    requires within { run.own ≤ length group.now }
+    requires low { (place : _) → slice_get group.now (run.own - 1) ≡ Some place → place < 32 }
+    ensures few { result ≡ true → run.bits < 64 }
+    ensures next { result ≡ true → IsNext group.now run.own run.place }
 {
-    if stand.run.count > 0 {
-        return stand;
-    }
-    let end = end_of(group, stand.own);
-    if end < stand.place {
-        let count = (stand.place - end) as u32;
-        return Stand {
-            place: end,
-            own: stand.own,
-            run: Run { own: false, count },
-        };
-    }
+    run.bits < 64 && run.own > 0 && end_of(group, run.own) == run.place
+}
+
+// The run with the bits of the last of the devices that are left, which is of the group.
+fn with_next(widths: &[u32], stand: Stand) -> Stand
+    requires own { (1 ≤ stand.own) × (stand.own ≤ length widths.now) }
+    requires place { 1 ≤ stand.place }
+    requires few { stand.bits < 64 }
+    ensures { result ≡ record { place = stand.place - 1; own = stand.own - 1; is_own = true; bits = stand.bits + slice_index_or widths.now (stand.own - 1) 0 } }
+{
     let own = stand.own - 1;
     Stand {
         place: stand.place - 1,
         own,
-        run: Run {
-            own: true,
-            count: widths[own],
-        },
+        is_own: true,
+        bits: stand.bits + widths[own] as usize,
     }
+}
+
+// Behind the run of the last of the devices that are left, which is of the group, and of those of the group right before it, until there
+// are the bits of a word.
+fn own_run(group: &[usize], widths: &[u32], stand: Stand) -> Stand
+    requires row { IsRow group.now widths.now stand.own stand.place }
+    requires next { IsNext group.now stand.own stand.place }
+    requires used { stand.bits ≡ 0 }
+    ensures same { marks_left group.now widths.now result.place result.bits result.is_own ≡ marks_left group.now widths.now stand.place stand.bits stand.is_own }
+    ensures row { IsRow group.now widths.now result.own result.place }
+    ensures some { 1 ≤ result.bits }
+{
+    let mut run = with_next(widths, stand);
+    while goes_on(group, run) {
+        run = with_next(widths, run);
+    }
+    run
+}
+
+// Where the run has a bit left: there itself, and else behind the next run, of devices of the group or of all devices before the next
+// one of it.
+fn entered(group: &[usize], widths: &[u32], stand: Stand) -> Stand
+    requires row { IsRow group.now widths.now stand.own stand.place }
+    requires left { 1 ≤ length (marks_left group.now widths.now stand.place stand.bits stand.is_own) }
+    ensures same { marks_left group.now widths.now result.place result.bits result.is_own ≡ marks_left group.now widths.now stand.place stand.bits stand.is_own }
+    ensures row { IsRow group.now widths.now result.own result.place }
+    ensures some { 1 ≤ result.bits }
+{
+    if stand.bits > 0 {
+        return stand;
+    }
+    let end = end_of(group, stand.own);
+    if end < stand.place {
+        return Stand {
+            place: end,
+            own: stand.own,
+            is_own: false,
+            bits: stand.place - end,
+        };
+    }
+    own_run(group, widths, stand)
 }
 
 impl<'a> Runs<'a> {
@@ -101,17 +139,14 @@ impl<'a> Runs<'a> {
         ensures read { (out : List Bool) → length out ≡ scan_length scan.now.layout scan.now.group (own_codes scan.now) → chosen result out ≡ group_bits scan.now.group (widths_during scan.now.layout.parts (scan_codes scan.now)) out }
     {
         let group = scan.group();
-        let run = Run {
-            own: false,
-            count: 0,
-        };
         Runs {
             group,
             widths,
             stand: Stand {
                 place: scan.devices(),
                 own: group.len(),
-                run,
+                is_own: false,
+                bits: 0,
             },
         }
     }
@@ -124,20 +159,15 @@ impl<'a> Runs<'a> {
         ensures some { 1 ≤ result.count }
         ensures few { result.count ≤ most }
     {
-        let Stand { place, own, run } = entered(self.group, self.widths, self.stand);
-        let count = run.count.min(most);
-        let rest = Run {
-            own: run.own,
-            count: run.count - count,
-        };
+        let run = entered(self.group, self.widths, self.stand);
+        let count = run.bits.min(most as usize);
         self.stand = Stand {
-            place,
-            own,
-            run: rest,
+            bits: run.bits - count,
+            ..run
         };
         Run {
-            own: run.own,
-            count,
+            own: run.is_own,
+            count: count as u32,
         }
     }
 }

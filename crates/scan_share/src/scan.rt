@@ -5,8 +5,7 @@ ghost use Rattle.scan_share.specs.Written.{group_widths};
 ghost use Rattle.scan_share.specs.Rows.{IsScanOf, IsSplit, own_codes, scan_words};
 
 use crate::codes::{Codes, bypass_code};
-use crate::scan_length::{Widths, register_widths};
-use arrayvec::ArrayVec;
+use crate::scan_length::{Widths, put_widths};
 use grant_table::Layout;
 use std::marker::Model;
 
@@ -102,25 +101,24 @@ impl<'a> Scan<'a> {
         true
     }
 
-    /// The codes of all devices during the scan.
-    pub fn all_codes(&self) -> Codes
-        ensures { result.items ≡ scan_words self.now }
+    /// Makes these the codes of all devices during the scan.
+    pub fn load(&self, loaded: &mut Codes)
+        ensures { loaded.new.items ≡ scan_words self.now }
     {
-        let mut all = ArrayVec::new();
+        loaded.clear();
         let mut own = 0;
         for place in 0..self.devices() {
             let (code, next) = self.code(place, own);
-            all.push(code);
+            loaded.push(code);
             own = next;
         }
-        all
     }
 
-    /// How many bits the registers have that the group's codes select.
-    pub fn widths(&self) -> Widths
-        ensures { result.items ≡ group_widths self.now.layout self.now.group (own_codes self.now) }
+    /// Makes these widths how many bits the registers have that the group's codes select.
+    pub fn put_widths(&self, widths: &mut Widths)
+        ensures { widths.new.items ≡ group_widths self.now.layout self.now.group (own_codes self.now) }
     {
         let _devices = self.devices();
-        register_widths(self.layout, self.group, self.codes)
+        put_widths(self.layout, self.group, self.codes, widths);
     }
 }

@@ -28,18 +28,17 @@ fn width(part: &Part, code: u64) -> u32
     part.len_of(part.select(code))
 }
 
-/// How many bits the registers of a group's devices have under these codes.
-pub fn register_widths(layout: &Layout, group: &[usize], codes: &[u64]) -> Widths
+/// Makes these widths how many bits the registers of a group's devices have under these codes.
+pub fn put_widths(layout: &Layout, group: &[usize], codes: &[u64], widths: &mut Widths)
     requires few { length group.now ≤ 32 }
     requires within { All (λ place. place < length layout.now.parts) group.now }
     requires coded { length codes.now ≡ length group.now }
-    ensures { result.items ≡ group_widths layout.now group.now (codes_of (entries_at layout.now.parts group.now) codes.now) }
+    ensures { widths.new.items ≡ group_widths layout.now group.now (codes_of (entries_at layout.now.parts group.now) codes.now) }
 {
-    let mut widths = ArrayVec::new();
+    widths.clear();
     for i in 0..group.len() {
         widths.push(width(layout.part(group[i]), codes[i]));
     }
-    widths
 }
 
 // How many bits there are together.
@@ -79,5 +78,7 @@ pub fn own_width(layout: &Layout, grant: usize, codes: &[u64]) -> usize
     ensures bound { result ≤ longest_of layout.now (group_of layout.now.grants grant) }
 {
     let group = members(layout, grant);
-    total(&Scan::new(layout, group, codes).widths())
+    let mut widths = ArrayVec::new();
+    Scan::new(layout, group, codes).put_widths(&mut widths);
+    total(&widths)
 }

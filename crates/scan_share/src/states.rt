@@ -9,13 +9,14 @@ ghost use Rattle.scan_share.specs.Scans.{Starts, Captures, IsReadOut, Updates, A
 ghost use Rattle.scan_share.specs.Codes.{AreCodes};
 ghost use Rattle.scan_share.specs.Views.{parked_or_broken, open_or_broken, AsksAtMost, IsLoadedFor, codes_for, own_width, capture_calls, update_calls};
 
-use crate::codes::{Codes, copy_of, reset_codes};
+use crate::codes::{Codes, codes_at, reset_codes};
 use crate::group_scans::{capture_to, update_from};
-use crate::members::members;
+use crate::members::{Places, members, places_of};
 use crate::own_bits::OwnBits;
 use crate::runs::Runs;
 use crate::scan::Scan;
 use crate::write_bits::WriteBits;
+use arrayvec::ArrayVec;
 use chain_model::Cable;
 use grant_table::Layout;
 use scan_bits::Bits;
@@ -49,17 +50,18 @@ impl<C: Cable> Model for Parked<C> {
 pub struct Open<C: Cable> {
     line: Line<C>,
     grant: usize,
-    codes: Codes,
+    places: Places,
 }
 
 impl<C: Cable> Model for Open<C> {
     ghost use Rattle.base_types.specs.Tellings.{Told};
     ghost use Rattle.chain_model.specs.Cables.{HasDevice};
+    ghost use Rattle.scan_share.specs.PrivateChains.{entries_at};
     ghost use Rattle.scan_share.specs.Views.{OpenView, OpenWith};
 
     ghost Value = { OpenView C };
 
-    ghost view = { λ o. record { cable = o.line.cable; loaded = o.line.loaded.items; grant = o.grant; codes = o.codes.items } };
+    ghost view = { λ o. record { cable = o.line.cable; loaded = o.line.loaded.items; grant = o.grant; codes = entries_at o.line.loaded.items o.places.items } };
 
     ghost invariant = { λ o. Told (C.chain o.line.cable) HasDevice × Told (C.chain o.line.cable) (OpenWith o.line.loaded.items) };
 }
@@ -150,7 +152,8 @@ impl<C: Cable> Parked<C> {
         let Parked { mut line } = self;
         let group = members(layout, grant);
         let scan = Scan::new(layout, group, codes);
-        let widths = scan.widths();
+        let mut widths = ArrayVec::new();
+        scan.put_widths(&mut widths);
         into.clear();
         let mut runs = Runs::new(&scan, &widths);
         let mut sink = OwnBits::new(&mut runs, into);
@@ -166,7 +169,7 @@ impl<C: Cable> Parked<C> {
             Ok(()) => Ok(Open {
                 line,
                 grant,
-                codes: copy_of(codes),
+                places: places_of(group),
             }),
             Err(_) => Err(line.broken()),
         }
@@ -190,10 +193,10 @@ impl<C: Cable> Open<C> {
     }
 
     /// The instruction codes of the grant's devices under which it captured, from TDI on, bit 0 nearest TDO.
-    pub fn codes(&self) -> &[u64]
-        ensures { result.now ≡ self.now.codes }
+    pub fn codes(&self) -> Codes
+        ensures { result.items ≡ self.now.codes }
     {
-        &self.codes
+        codes_at(&self.line.loaded, &self.places)
     }
 
     /// Updates the registers of a grant's devices from these bits, bit 0 nearest TDO, under the codes that are loaded: the devices hold
@@ -223,11 +226,12 @@ impl<C: Cable> Open<C> {
         let Open {
             mut line,
             grant: _,
-            codes: _,
+            places: _,
         } = self;
         let group = members(layout, grant);
         let scan = Scan::new(layout, group, codes);
-        let widths = scan.widths();
+        let mut widths = ArrayVec::new();
+        scan.put_widths(&mut widths);
         let mut source = WriteBits::new(&scan, &widths, bits);
         match update_from(
             &mut line.cable,
@@ -259,7 +263,7 @@ impl<C: Cable> Open<C> {
         let Open {
             mut line,
             grant: _,
-            codes: _,
+            places: _,
         } = self;
         line.loaded = reset_codes(layout);
         match line.cable.reset() {
@@ -279,7 +283,7 @@ impl<C: Cable> Open<C> {
         let Open {
             line,
             grant: _,
-            codes: _,
+            places: _,
         } = self;
         line.into_cable()
     }

@@ -5,6 +5,6 @@ use Rattle.scan_share.proofs.runs.Runs.next.Goals as goal
 
 pub returns-clause-left : goal.returns-clause-left
 returns-clause-left c =
-    run_split c.min-count.result c.entered-place.result.run.count c.entered-place.result.run.own (marks_below c.self.inside.group.now c.self.inside.widths.now c.entered-place.result.place)
+    run_split c.min-count.result c.entered-run.result.bits c.entered-run.result.is_own (marks_below c.self.inside.group.now c.self.inside.widths.now c.entered-run.result.place)
     (omega (arith, c.min-count.ensures))
-    ∙ c.entered-place.ensures.same ∙ c.self.view_is
+    ∙ c.entered-run.ensures.same ∙ c.self.view_is

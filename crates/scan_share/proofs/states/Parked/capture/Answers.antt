@@ -1,8 +1,7 @@
-use Rattle.std.proofs.Common.{◌∙◌, ap, arith, length}
-use Rattle.grant_table.specs.Layouts.{group_of}
+use Rattle.std.proofs.Common.{◌∙◌, ap, refl}
 use Rattle.scan_bits.specs.BitLists.{BitList}
 use Rattle.scan_share.proofs.Answered.{kept_by}
-use Rattle.scan_share.proofs.Ready.{coded}
+use Rattle.scan_share.proofs.Loading.{own_loaded}
 use Rattle.scan_share.proofs.states.Parked.capture.Goals as goal
 
 pub capture_to-requires-clause-kept : goal.capture_to-requires-clause-kept
@@ -11,11 +10,9 @@ capture_to-requires-clause-kept g c = λ out long.
     ∙ kept_by c.args.layout.now c.args.grant c.args.codes.now c.new-scan.result c.members-group.result.now c.clear.new.self.bits c.new-runs.result
     c.new-scan.ensures c.members-group.ensures.is (ap (λ (b : BitList). b.bits) c.clear.ensures) c.new-runs.ensures.read out long
 
-pub copy_of-requires : goal.copy_of-requires
-copy_of-requires g c =
-    omega (
-      arith,
-      coded c.args.layout.now (group_of c.args.layout.now.grants c.args.grant) c.args.codes.now c.members-group.ensures.group c.requires.codes,
-      c.members-group.ensures.few,
-      ap length c.members-group.ensures.is,
-    )
+pub returns-in-Ok-clause-told : goal.returns-in-Ok-clause-told
+returns-in-Ok-clause-told g c = (
+  refl,
+  own_loaded c.args.layout.now c.args.grant c.args.codes.now c.members-group.result.now c.capture_to.new.loaded.items c.places_of.result.items
+      c.members-group.ensures.parts c.members-group.ensures.is c.members-group.ensures.rising c.members-group.ensures.within c.members-group.ensures.few c.requires.codes c.capture_to.ensures.loaded c.places_of.ensures,
+)

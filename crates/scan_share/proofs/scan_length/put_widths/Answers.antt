@@ -2,7 +2,7 @@ use Rattle.std.proofs.Common.{arith, refl, sym, ◌∙◌, ap, Some}
 use Rattle.scan_share.specs.PrivateChains.{entries_at}
 use Rattle.scan_share.specs.Scans.{codes_of, widths_during}
 use Rattle.scan_share.proofs.Splits.{more_begun, all_begun, group_width, group_widths_counted}
-use Rattle.scan_share.proofs.scan_length.register_widths.Goals as goal
+use Rattle.scan_share.proofs.scan_length.put_widths.Goals as goal
 
 pub loop-i-preserved : goal.loop-i-preserved
 loop-i-preserved c =

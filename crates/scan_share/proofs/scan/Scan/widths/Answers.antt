@@ -1,5 +1,0 @@
-use Rattle.scan_share.proofs.Splits.{scan_coded}
-use Rattle.scan_share.proofs.scan.Scan.widths.Goals as goal
-
-pub register_widths-requires-clause-coded : goal.register_widths-requires-clause-coded
-register_widths-requires-clause-coded c = scan_coded (record { layout = c.self.inside.layout.now; group = c.self.inside.group.now; codes = c.self.inside.codes.now }) c.self.invariant
