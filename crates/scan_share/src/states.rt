@@ -166,13 +166,14 @@ impl<C: Cable> Parked<C> {
             &widths,
             &mut sink,
         ) {
-            Ok(()) => Ok(Open {
-                line,
-                grant,
-                places: places_of(group),
-            }),
-            Err(_) => Err(line.broken()),
+            Ok(()) => {}
+            Err(_) => return Err(line.broken()),
         }
+        Ok(Open {
+            line,
+            grant,
+            places: places_of(group),
+        })
     }
 
     /// Hands the cable back.
@@ -242,9 +243,10 @@ impl<C: Cable> Open<C> {
             &widths,
             &mut source,
         ) {
-            Ok(()) => Ok(Parked { line }),
-            Err(_) => Err(line.broken()),
+            Ok(()) => {}
+            Err(_) => return Err(line.broken()),
         }
+        Ok(Parked { line })
     }
 
     /// Ends the scan by a reset of the whole chain and one cycle with TMS 0: nothing is updated, and no content changes.

@@ -10,8 +10,8 @@ capture_to-requires-clause-kept g c = λ out long.
     ∙ kept_by c.args.layout.now c.args.grant c.args.codes.now c.new-scan.result c.members-group.result.now c.clear.new.self.bits c.new-runs.result
     c.new-scan.ensures c.members-group.ensures.is (ap (λ (b : BitList). b.bits) c.clear.ensures) c.new-runs.ensures.read out long
 
-pub returns-in-Ok-clause-told : goal.returns-in-Ok-clause-told
-returns-in-Ok-clause-told g c = (
+pub returns-clause-told : goal.returns-clause-told
+returns-clause-told g c = (
   refl,
   own_loaded c.args.layout.now c.args.grant c.args.codes.now c.members-group.result.now c.capture_to.new.loaded.items c.places_of.result.items
       c.members-group.ensures.parts c.members-group.ensures.is c.members-group.ensures.rising c.members-group.ensures.within c.members-group.ensures.few c.requires.codes c.capture_to.ensures.loaded c.places_of.ensures,
