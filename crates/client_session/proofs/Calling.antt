@@ -394,9 +394,10 @@ module _ {C : Type 0} (layout : LayoutShape) (grant : ℕ) (old new : Progress) 
       → Begins layout grant call.sound desk turn (received piece turn.seat) (ShowsFed old piece grant given)
   begins_fed piece stands awaits none few shows chain serves =
       let own = own_shows false shows in
-      let going = is_going false turn.seat stand own.stand (λ free. absurd (let q : Stand.Free ≡ Stand.Going = free ∙ stands in cc)) in
-      (serves_on layout (group_of layout.grants grant) grant (desk_of layout desk chain) turn (received piece turn.seat) refl (fed_over layout grant turn piece serves.over) serves,
-        fed_shows layout grant old stand false given (desk_of layout desk chain) turn own_parts own serves going piece awaits none few)
+      let going = is_going false turn.seat stand own.stand (λ free. absurd (let q : Stand.Free ≡ Stand.Going = free ∙ stands in cc)) in (
+        serves_on layout (group_of layout.grants grant) grant (desk_of layout desk chain) turn (received piece turn.seat) refl (fed_over layout grant turn piece serves.over) serves,
+        fed_shows layout grant old stand false given (desk_of layout desk chain) turn own_parts own serves going piece awaits none few,
+      )
 
   -- the wait is over
   pub begins_resumed : is_in_line stand ≡ true → Shows state.view true turn.seat given → Begins layout grant call.sound desk turn turn.seat (ShowsSeat old grant given)
@@ -411,9 +412,10 @@ module _ {C : Type 0} (layout : LayoutShape) (grant : ℕ) (old new : Progress) 
   begins_gone stands keeps awaits shows chain serves =
       let line : is_in_line state.view.stand ≡ false = ap (λ (s : SessionState). is_in_line s.view.stand) (sym call.state_is) ∙ ap is_in_line stands in
       let own = own_shows false (subst (λ w. Shows state.view w turn.seat given) line shows) in
-      let going = is_going false turn.seat stand own.stand (λ free. absurd (let q : Stand.Free ≡ Stand.Going = free ∙ stands in cc)) in
-      (serves_on layout (group_of layout.grants grant) grant (desk_of layout desk chain) turn (record turn.seat { gone = true }) refl (gone_over layout grant turn serves.over) serves,
-        rests_gone layout grant old stand false given (desk_of layout desk chain) turn own_parts own serves going keeps awaits)
+      let going = is_going false turn.seat stand own.stand (λ free. absurd (let q : Stand.Free ≡ Stand.Going = free ∙ stands in cc)) in (
+        serves_on layout (group_of layout.grants grant) grant (desk_of layout desk chain) turn (record turn.seat { gone = true }) refl (gone_over layout grant turn serves.over) serves,
+        rests_gone layout grant old stand false given (desk_of layout desk chain) turn own_parts own serves going keeps awaits,
+      )
 
   -- the peer of a session that waits for the chain is gone
   pub begins_leaving : stand ≡ Stand.Waits → AwaitsCapture old → is_among state.grant (waiting desk) ≡ true → may_open (holder desk) (waiting desk) state.grant ≡ false → Shows state.view (is_in_line state.view.stand) turn.seat given
@@ -425,8 +427,8 @@ module _ {C : Type 0} (layout : LayoutShape) (grant : ℕ) (old new : Progress) 
       let there : is_among grant turn.waiting ≡ true = (λ i. is_among (own_grant i) (sym serves.waiting i)) ∙ among in
       let not_yet : may_open turn.holder turn.waiting grant ≡ false = (λ i. may_open (sym serves.holder i) (sym serves.waiting i) (own_grant i)) ∙ may in
       let at = seat_shows layout grant old stand true given (desk_of layout desk chain) turn own_parts own serves going in
-      let left : Turn = record turn { seat = record turn.seat { gone = true } } in
-      (serves_on layout (group_of layout.grants grant) grant (desk_of layout desk chain) turn (record turn.seat { gone = true }) refl (gone_over layout grant turn serves.over) serves,
+      let left : Turn = record turn { seat = record turn.seat { gone = true } } in (
+        serves_on layout (group_of layout.grants grant) grant (desk_of layout desk chain) turn (record turn.seat { gone = true }) refl (gone_over layout grant turn serves.over) serves,
         record {
           shows = record {
             tap = record {
@@ -448,7 +450,8 @@ module _ {C : Type 0} (layout : LayoutShape) (grant : ℕ) (old new : Progress) 
           };
           rests = waits_rests layout grant left (opens_there old awaits left.seat going at.tap.stands at.acts at.tap.tck at.tap.trst) not_yet there;
           waits = there;
-        })
+        },
+      )
 
 pub leaving_is : (stand : Stand) (seat : Seat) → seat.going ≡ true → stand ≡ stand_of true seat → is_leaving stand ≡ seat.gone
 leaving_is stand seat going stands = ap is_leaving (stands ∙ (λ i. cond (going i) (cond seat.gone Stand.Leaving Stand.Waits) Stand.Free)) ∙ by seat.gone
@@ -456,9 +459,6 @@ leaving_is stand seat going stands = ap is_leaving (stands ∙ (λ i. cond (goin
     by : (g : Bool) → is_leaving (cond g Stand.Leaving Stand.Waits) ≡ g
     by true = refl
     by false = refl
-
-pub comes_none : (layout : LayoutShape) (grant : ℕ) (P : Turn → Type 0) (turn : Turn) → P turn → ComesTo layout grant P turn
-comes_none layout grant P turn there = record { next = turn; steps = 0; made = refl; gone = refl; past = refl; there = there }
 
 pub waits_here : (stand : Stand) → is_waiting stand ≡ true → stand ≡ Stand.Waits
 waits_here Stand.Waits h = refl

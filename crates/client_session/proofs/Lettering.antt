@@ -33,6 +33,7 @@ use Rattle.client_session.specs.Letters.{ComesQuietly, IsToDo, KeepsLines, SaysT
 use Rattle.client_session.proofs.Answering.{one_act}
 use Rattle.client_session.proofs.Attending.{follows_quiet}
 use Rattle.client_session.proofs.Quietly.{advanced_turns-add, no_rise_next, quiet_act, quiet_more, quiet_none}
+use Rattle.client_session.proofs.Coming.{comes_more, comes_none}
 
 -- ---- what the bytes of remote_bitbang say
 
@@ -110,21 +111,6 @@ lines_same : (progress : Progress) → KeepsLines progress progress
 lines_same progress = record { tap = refl; tck = refl; trst = refl; protocol = refl; uses_trst = refl; vector = refl }
 
 module _ (layout : LayoutShape) (grant : ℕ) where
-  pub comes_none : (P : Turn → Type 0) (turn : Turn) → P turn → ComesTo layout grant P turn
-  comes_none P turn there = record { next = turn; steps = 0; made = refl; gone = refl; past = refl; there = there }
-
-  pub comes_more : (P Q : Turn → Type 0) (turn : Turn) → ComesTo layout grant P turn → ((next : Turn) → P next → ComesTo layout grant Q next) → ComesTo layout grant Q turn
-  comes_more P Q turn first more =
-      let then = more first.next first.there in
-      record {
-        next = then.next;
-        steps = first.steps + then.steps;
-        made = then.made ∙ ap (advanced_turns then.steps layout grant) first.made ∙ sym (advanced_turns-add layout grant first.steps then.steps turn);
-        gone = then.gone ∙ first.gone;
-        past = then.past ∙ first.past;
-        there = then.there;
-      }
-
   pub quietly_none : (P : Turn → Type 0) (turn : Turn) → P turn → ComesQuietly layout grant P turn
   quietly_none P turn there = record { next = turn; quiet = quiet_none layout grant turn; gone = refl; past = refl; there = there }
 

@@ -25,6 +25,7 @@ pub mod Attending
 pub mod Entering
 pub mod Closing
 pub mod Others
+pub mod Coming
 pub mod Stopping
 pub mod Calling
 pub mod Emptied

@@ -492,18 +492,6 @@ module _ (layout : LayoutShape) (grant : ℕ) (sound : IsSound layout grant) (ba
     comes_shifting P S T Q desk next (Some chain) after turn turned went more attends =
         comes_through T Q next after turn (went (attends_as P S desk (Some chain) turn turned attends)) (λ last kept there. more last attends.1 kept there)
 
-pub comes_more : (layout : LayoutShape) (grant : ℕ) (P Q : Turn → Type 0) (turn : Turn) → ComesTo layout grant P turn → ((next : Turn) → P next → ComesTo layout grant Q next) → ComesTo layout grant Q turn
-comes_more layout grant P Q turn first more =
-    let then = more first.next first.there in
-    record {
-      next = then.next;
-      steps = first.steps + then.steps;
-      made = then.made ∙ ap (advanced_turns then.steps layout grant) first.made ∙ sym (advanced_turns-add layout grant first.steps then.steps turn);
-      gone = then.gone ∙ first.gone;
-      past = then.past ∙ first.past;
-      there = then.there;
-    }
-
 -- ---- by how a call answered
 
 -- nothing more was replied

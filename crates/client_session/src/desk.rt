@@ -13,13 +13,28 @@ ghost use Rattle.client_session.specs.Going.{EndsNext, ResetsNext};
 ghost use Rattle.client_session.specs.Desks.{AbandonsScan, Attends, Closed, IsDesk, IsSound, KeepsOthers, Opened, StepsTo, cable_after, cable_of};
 
 use chain_model::Cable;
-use chain_token::{Queue, Token};
+use chain_token::{Asked, Queue, Token};
 use grant_table::Layout;
 use scan_share::{Broken, Open, Parked};
 use virtual_tap::VTap;
 
 /// The desk: the shared chain, free or with a grant's open scan, and the grants that wait for it.
 pub type Desk<C> = Token<Parked<C>, Open<C>>;
+
+/// Leaves the desk as it stands, and hands the cable back; an open scan stays open.
+pub fn leave<C: Cable>(desk: Desk<C>) -> C
+    ensures { result ≡ cable_of desk.side }
+{
+    if desk.held_by().is_some() {
+        let (held, _queue) = desk.release();
+        return held.leave();
+    }
+    let next = desk.next().unwrap_or(0);
+    match desk.ask(next) {
+        Asked::Yours(parked, _queue) => parked.into_cable(),
+        Asked::Wait(_desk) => unreachable!(),
+    }
+}
 
 /// What always holds of a layout and a grant of it.
 pub fn sound(layout: &Layout, grant: usize)

@@ -1,4 +1,4 @@
-//! One session at a time over a private chain: what a client's bytes ask of it, what it replies, and where it has to wait.
+//! The sessions of a grant: what a client's bytes ask of its private chain, what it is replied, and where it has to wait for the shared one.
 #![tactic(auto)]
 
 ghost use Rattle.std.specs.Prelude.{◌≡◌, ℕ, List, [], ◌∷◌, ◌++◌};
@@ -20,7 +20,7 @@ mod progress;
 mod session;
 mod shift;
 
-pub use desk::Desk;
+pub use desk::{Desk, leave};
 pub use session::Session;
 
 /// How a session ended. Bytes are counted from 0, from the first of the session.

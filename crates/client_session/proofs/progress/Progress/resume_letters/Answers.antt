@@ -1,7 +1,8 @@
 use Rattle.client_session.specs.Desks.{Attends, cable_of}
 use Rattle.client_session.specs.Calls.{HaltsAt, HasReplied, ShowsSeat}
-use Rattle.client_session.proofs.Lettering.{comes_more, failed_so}
+use Rattle.client_session.proofs.Lettering.{failed_so}
 use Rattle.client_session.proofs.progress.Progress.resume_letters.Goals as goal
+use Rattle.client_session.proofs.Coming.{comes_more}
 
 pub returns-in_err-halt-clause-failed : goal.returns-in_err-halt-clause-failed
 returns-in_err-halt-clause-failed g c = failed_so c.from_residual-in_err-halt.result (λ given base_desk base turn whole attends.

@@ -3,8 +3,9 @@ use Rattle.client_session.specs.declared.halt.Halt.TheVariants.{Waits}
 use Rattle.client_session.specs.Desks.{Attends, cable_of}
 use Rattle.client_session.specs.Calls.{ComesTo, HaltsAt, HasReplied, LinesTo, LinesWell, ShowsSeat}
 use Rattle.client_session.proofs.Others.{others_more}
-use Rattle.client_session.proofs.Lettering.{attends_quietly, comes_more, failed_so, settings_more}
+use Rattle.client_session.proofs.Lettering.{attends_quietly, failed_so, settings_more}
 use Rattle.client_session.proofs.progress.Progress.use_letters.Goals as goal
+use Rattle.client_session.proofs.Coming.{comes_more}
 
 pub returns-in-Err-clause-went : goal.returns-in-Err-clause-went
 returns-in-Err-clause-went g c = λ given base_desk base turn whole attends.

@@ -2,8 +2,9 @@ use Rattle.std.proofs.Common.{}
 use Rattle.client_session.specs.declared.halt.Halt.TheVariants.{Rests}
 use Rattle.client_session.specs.Calls.{HaltsAt, HasReplied, ShowsSeat}
 use Rattle.client_session.specs.Desks.{Attends, cable_of}
-use Rattle.client_session.proofs.Messaging.{comes_more, comes_quietly, if_err, if_ok}
+use Rattle.client_session.proofs.Messaging.{comes_quietly, if_err, if_ok}
 use Rattle.client_session.proofs.progress.Progress.use_message.Goals as goal
+use Rattle.client_session.proofs.Coming.{comes_more}
 
 pub returns-in-GetInfo-clause-went : goal.returns-in-GetInfo-clause-went
 returns-in-GetInfo-clause-went g c = λ given base_desk base turn whole attends.

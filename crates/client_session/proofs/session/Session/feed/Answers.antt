@@ -9,7 +9,7 @@ use Rattle.client_session.specs.Sessions.{is_in_line, is_leaving, stand_after, v
 use Rattle.client_session.specs.Stores.{StandsSo, SessionState, replied, unused_of, view_of}
 use Rattle.client_session.specs.declared.halt.Halt.TheVariants as halts
 use Rattle.client_session.specs.Calls.{CameOn, HaltsAt, RestsThere, ServedBy, ShowsFed, ShowsSeat, WaitsThere}
-use Rattle.client_session.proofs.Calling.{AtCall, begins_fed, begins_gone, begins_leaving, begins_resumed, call_came, call_failed, comes_none, comes_replied, is_going, leaving_is}
+use Rattle.client_session.proofs.Calling.{AtCall, begins_fed, begins_gone, begins_leaving, begins_resumed, call_came, call_failed, comes_replied, is_going, leaving_is}
 use Rattle.client_session.proofs.Emptied.{none_left}
 use Rattle.client_session.proofs.session.Session.feed.Goals as goal
 
@@ -24,7 +24,7 @@ returns-in-Ok-clause-came g c = λ given turn shows.
     let whole_fit : c.self.inside.spent ≡ false = ap (λ (s : SessionState). s.view.spent) c.self.view_is ∙ c.requires.fit in
     let awaits = (subst (λ stand. StandsSo stand c.self.inside.progress) stands (c.self.invariant.stands whole_fit)).0 in
     let few : length c.args.piece.now ≤ most_bytes - (c.self.inside.progress.used + length (unused_of c.self.inside.progress.input)) =
-        subst (λ (s : SessionState). length c.args.piece.now ≤ most_bytes - (s.view.used + length s.view.unused)) (sym c.self.view_is) (omega (arith, c.requires.wanted, min-le_right (wanted_by c.args.self.now.view.protocol c.args.self.now.view.vector c.args.self.now.view.unused) (most_bytes - (c.args.self.now.view.used + length c.args.self.now.view.unused)))) in
+    subst (λ (s : SessionState). length c.args.piece.now ≤ most_bytes - (s.view.used + length s.view.unused)) (sym c.self.view_is) (omega (arith, c.requires.wanted, min-le_right (wanted_by c.args.self.now.view.protocol c.args.self.now.view.vector c.args.self.now.view.unused) (most_bytes - (c.args.self.now.view.used + length c.args.self.now.view.unused)))) in
     let begins = begins_fed c.args.layout.now c.grant-grant.result c.self.inside.progress c.feed.new.self c.self.inside.stand c.self.inside.spent c.args.self.now the_call c.args.desk c.in-Ok.desk (g.C.Cable.chain (cable_of c.args.desk.side)) (g.C.Cable.chain (cable_of c.in-Ok.desk.side)) given turn c.args.piece.now stands awaits (ap (λ (s : SessionState). s.view.reply) c.self.view_is ∙ c.requires.given) few shows in
     subst (λ st. ServedBy c.args.layout.now c.args.self.now.grant c.args.desk (g.C.Cable.chain (cable_of c.args.desk.side)) turn → CameOn c.args.layout.now c.args.self.now.grant (view_of c.feed.new.self st c.self.inside.spent) given c.args.desk c.in-Ok.desk (g.C.Cable.chain (cable_of c.args.desk.side)) (g.C.Cable.chain (cable_of c.in-Ok.desk.side)) (record turn { seat = received c.args.piece.now turn.seat }) c.in-Ok.stop)
     (sym c.after-self-inside.ensures)
@@ -38,7 +38,7 @@ returns-in-Err-clause-failed g c = λ given turn shows.
     let whole_fit : c.self.inside.spent ≡ false = ap (λ (s : SessionState). s.view.spent) c.self.view_is ∙ c.requires.fit in
     let awaits = (subst (λ stand. StandsSo stand c.self.inside.progress) stands (c.self.invariant.stands whole_fit)).0 in
     let few : length c.args.piece.now ≤ most_bytes - (c.self.inside.progress.used + length (unused_of c.self.inside.progress.input)) =
-        subst (λ (s : SessionState). length c.args.piece.now ≤ most_bytes - (s.view.used + length s.view.unused)) (sym c.self.view_is) (omega (arith, c.requires.wanted, min-le_right (wanted_by c.args.self.now.view.protocol c.args.self.now.view.vector c.args.self.now.view.unused) (most_bytes - (c.args.self.now.view.used + length c.args.self.now.view.unused)))) in
+    subst (λ (s : SessionState). length c.args.piece.now ≤ most_bytes - (s.view.used + length s.view.unused)) (sym c.self.view_is) (omega (arith, c.requires.wanted, min-le_right (wanted_by c.args.self.now.view.protocol c.args.self.now.view.vector c.args.self.now.view.unused) (most_bytes - (c.args.self.now.view.used + length c.args.self.now.view.unused)))) in
     let begins = begins_fed c.args.layout.now c.grant-grant.result c.self.inside.progress c.feed.new.self c.self.inside.stand c.self.inside.spent c.args.self.now the_call c.args.desk c.args.desk (g.C.Cable.chain (cable_of c.args.desk.side)) (g.C.Cable.chain (cable_of c.args.desk.side)) given turn c.args.piece.now stands awaits (ap (λ (s : SessionState). s.view.reply) c.self.view_is ∙ c.requires.given) few shows in
     call_failed c.args.layout.now c.grant-grant.result c.self.inside.progress c.feed.new.self c.self.inside.stand c.self.inside.spent c.args.self.now the_call c.args.desk c.args.desk (g.C.Cable.chain (cable_of c.args.desk.side)) (g.C.Cable.chain (cable_of c.args.desk.side)) given turn (received c.args.piece.now turn.seat) (ShowsFed c.self.inside.progress c.args.piece.now c.grant-grant.result given) begins
     (λ base_desk base whole attends. c.in-Err.ensures.failed given base_desk base (record turn { seat = received c.args.piece.now turn.seat }) whole attends)

@@ -9,13 +9,14 @@ use Rattle.client_session.specs.Sessions.{is_in_line, is_leaving, is_here, is_wa
 use Rattle.client_session.specs.Stores.{StandsSo, SessionState, replied, unused_of, view_of}
 use Rattle.client_session.specs.declared.halt.Halt.TheVariants as halts
 use Rattle.client_session.specs.Calls.{CameOn, HaltsAt, RestsThere, ServedBy, ShowsFed, ShowsSeat, WaitsThere}
-use Rattle.client_session.proofs.Calling.{AtCall, begins_fed, begins_gone, begins_leaving, begins_resumed, call_came, call_failed, comes_none, comes_replied, going_here, is_going, leaving_is, waits_here}
+use Rattle.client_session.proofs.Calling.{AtCall, begins_fed, begins_gone, begins_leaving, begins_resumed, call_came, call_failed, comes_replied, going_here, is_going, leaving_is, waits_here}
 use Rattle.client_session.proofs.Emptied.{none_left}
 use Rattle.client_session.specs.Turns.{is_among, may_open}
 use Rattle.chain_token.specs.Tokens.{holder, waiting}
 use Rattle.client_session.specs.declared.Stop.{Stop}
 use Rattle.client_session.proofs.Stopping.{stops_waiting}
 use Rattle.client_session.proofs.session.Session.gone.Goals as goal
+use Rattle.client_session.proofs.Coming.{comes_none}
 
 pub returns-then-is_waiting-clause-came : goal.returns-then-is_waiting-clause-came
 returns-then-is_waiting-clause-came g c = λ given turn shows.

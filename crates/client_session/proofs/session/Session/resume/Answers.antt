@@ -9,7 +9,7 @@ use Rattle.client_session.specs.Sessions.{is_in_line, is_leaving, stand_after, v
 use Rattle.client_session.specs.Stores.{StandsSo, SessionState, replied, unused_of, view_of}
 use Rattle.client_session.specs.declared.halt.Halt.TheVariants as halts
 use Rattle.client_session.specs.Calls.{CameOn, HaltsAt, RestsThere, ServedBy, ShowsFed, ShowsSeat, WaitsThere}
-use Rattle.client_session.proofs.Calling.{AtCall, begins_fed, begins_gone, begins_leaving, begins_resumed, call_came, call_failed, comes_none, comes_replied, is_going, leaving_is}
+use Rattle.client_session.proofs.Calling.{AtCall, begins_fed, begins_gone, begins_leaving, begins_resumed, call_came, call_failed, comes_replied, is_going, leaving_is}
 use Rattle.client_session.proofs.Emptied.{none_left}
 use Rattle.client_session.proofs.session.Session.resume.Goals as goal
 
