@@ -104,6 +104,7 @@ impl Session {
         requires fit { self.old.view.spent ≡ false }
         ensures kept { KeepsSession self.old self.new }
         ensures going { (self.new.view.stand ≡ Going) × (self.new.view.reply ≡ []) × (self.new.view.spent ≡ false) }
+        ensures shut { self.new.view.tap.scan_open ≡ false }
         ensures shown { (conn : ℕ) (seat : Seat) (given : List ℕ) → types_of seat.chain ≡ self.old.parts → Shows self.old.view false seat given → Shows self.new.view false (opened conn seat) [] }
     {
         self.progress.begin(layout);
