@@ -1,5 +1,5 @@
 -- The calls of a session beside the turn of its grant: where they begin, and what they come to.
-use Rattle.std.proofs.Common.{◌≡◌, ◌≤◌, ◌<◌, ◌+◌, ◌-◌, ℕ, zero, suc, Bool, true, false, not, ◌&&◌, cond, is_some, List, [], ◌∷◌, ◌++◌, take, length, refl, ap, sym, ◌∙◌, subst, arith, append_assoc, Some, None, inl, inr}
+use Rattle.std.proofs.Common.{◌≡◌, ◌≤◌, ◌+◌, ◌-◌, ℕ, zero, suc, Bool, true, false, not, ◌&&◌, cond, is_some, List, [], ◌∷◌, ◌++◌, length, refl, ap, sym, ◌∙◌, subst, arith, append_assoc, Some, None, inl, inr}
 use Rattle.std.specs.declared.option.Option.{Option}
 use Rattle.std.proofs.lemmas.List.{append-nil, take_all}
 use Rattle.chain_model.specs.Chains.{ChainState}
@@ -8,7 +8,6 @@ use Rattle.grant_table.specs.declared.Protocol.TheVariants.{Xvc, Bitbang}
 use Rattle.grant_table.specs.Layouts.{LayoutShape, group_of}
 use Rattle.scan_share.specs.PrivateChains.{entries_at, nets_within}
 use Rattle.scan_share.specs.Scans.{types_of, contents_of, code_list, IsOpenFor}
-use Rattle.xvc_frame.specs.Frames.{FrameState, IsOpen}
 use Rattle.xvc_frame.specs.Messages.{front, refused}
 use Rattle.client_session.specs.declared.Stand.{Stand}
 use Rattle.client_session.specs.declared.Stop.{Stop}
@@ -41,7 +40,7 @@ use Rattle.client_session.specs.Desks.{Attends, IsSound, desk_of}
 use Rattle.client_session.specs.Calls.{CameOn, WaitsThere, ComesTo, ComesToStop, HaltsAt, HasReplied, RestsThere, ServedBy, ShowsFed, ShowsSeat, ShowsTap, StopsThere}
 use Rattle.client_session.proofs.Shared.{follows_none}
 use Rattle.client_session.proofs.Later.{finished-advanced}
-use Rattle.client_session.proofs.Growth.{GoesOn, Ends, advanced_kind}
+use Rattle.client_session.proofs.Growth.{advanced_kind}
 use Rattle.client_session.proofs.Opening.{both, not_true}
 use Rattle.client_session.proofs.Resting.{as_is, gone_on_rests}
 use Rattle.client_session.proofs.Quietly.{gone_on-steps}

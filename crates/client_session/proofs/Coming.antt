@@ -1,5 +1,5 @@
 -- Where steps of a grant come to, one after another.
-use Rattle.std.proofs.Common.{◌≡◌, ◌+◌, ℕ, refl, ap, sym, ◌∙◌}
+use Rattle.std.proofs.Common.{◌+◌, ℕ, refl, ap, sym, ◌∙◌}
 use Rattle.client_session.specs.Turns.{LayoutShape, Turn, advanced_turns}
 use Rattle.client_session.specs.Calls.{ComesTo}
 use Rattle.client_session.proofs.Quietly.{advanced_turns-add}

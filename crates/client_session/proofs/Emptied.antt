@@ -1,5 +1,5 @@
 -- Bytes that are forgotten.
-use Rattle.std.proofs.Common.{◌≡◌, ◌≤◌, ◌+◌, ◌-◌, ℕ, List, [], drop, length, length-drop, refl, ap, sym, ◌∙◌, subst, arith}
+use Rattle.std.proofs.Common.{◌≡◌, ◌≤◌, ◌-◌, ℕ, List, [], drop, length, length-drop, refl, ap, arith}
 use Rattle.client_session.specs.declared.input.Input.{Input}
 use Rattle.client_session.specs.declared.input.Input.TheVariants.{Xvc, Bitbang}
 use Rattle.client_session.specs.declared.input.Work.{Work}

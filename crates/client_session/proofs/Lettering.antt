@@ -23,7 +23,7 @@ use Rattle.client_session.specs.Acts.{Act}
 use Rattle.client_session.specs.Acts.Act.{SayTdo, EndAt}
 use Rattle.client_session.specs.Seats.{Seat, Next, advanced, acted, ended, next_bitbang, next_letter, opens_next, rises_next, tdo_digit}
 use Rattle.client_session.specs.Seats.Next.{Whole, RefusedAt}
-use Rattle.client_session.specs.Turns.{Turn, frees, stepped, advanced_turn, advanced_turns}
+use Rattle.client_session.specs.Turns.{Turn, frees, stepped, advanced_turn}
 use Rattle.client_session.specs.Sessions.{DeskView}
 use Rattle.client_session.specs.Stores.{AwaitsBytes, acts_of, protocol_of, replied, reply_of, sampled_of, unused_of}
 use Rattle.client_session.specs.Going.{Holds, Quiet}
@@ -32,7 +32,7 @@ use Rattle.client_session.specs.Calls.{ComesTo, EndsSo, HasReplied, IsToAct, Kee
 use Rattle.client_session.specs.Letters.{ComesQuietly, IsToDo, KeepsLines, SaysTdo, TakesLetters, UsesFirst}
 use Rattle.client_session.proofs.Answering.{one_act}
 use Rattle.client_session.proofs.Attending.{follows_quiet}
-use Rattle.client_session.proofs.Quietly.{advanced_turns-add, no_rise_next, quiet_act, quiet_more, quiet_none}
+use Rattle.client_session.proofs.Quietly.{no_rise_next, quiet_act, quiet_more, quiet_none}
 use Rattle.client_session.proofs.Coming.{comes_more, comes_none}
 
 -- ---- what the bytes of remote_bitbang say

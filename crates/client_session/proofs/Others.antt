@@ -1,12 +1,11 @@
 -- What the calls of one grant at the desk leave of the others.
 use Rattle.std.proofs.Common.{◌≡◌, ◌==◌, ℕ, Bool, true, false, not, cond, List, [], ◌∷◌, ◌++◌, refl, ap, sym, ◌∙◌, Some, None}
 use Rattle.std.specs.declared.option.Option.{Option}
-use Rattle.std.specs.List.{filter}
 use Rattle.std.proofs.lemmas.Bool.{eq-eqb, eqb-true}
 use Rattle.chain_token.specs.declared.token.Token.{Token}
 use Rattle.chain_token.specs.declared.token.Asked.TheVariants as asked
 use Rattle.chain_token.specs.Tokens.{Answers, holder, holder_of, waiting}
-use Rattle.chain_token.specs.Waiting.{is_among, may_open, with_waiting, without}
+use Rattle.chain_token.specs.Waiting.{is_among, with_waiting, without}
 use Rattle.scan_share.specs.Views.{ParkedView, OpenView}
 use Rattle.client_session.specs.Turns.{is_holder}
 use Rattle.client_session.specs.Desks.{KeepsOthers}

@@ -1,28 +1,26 @@
 -- Where a call of a session stops: it rests, waits, or ends there, and the grant goes on no further.
-use Rattle.std.proofs.Common.{◌≡◌, ◌≢◌, ◌≤◌, ◌<◌, ◌+◌, ◌-◌, ℕ, zero, suc, Bool, true, false, not, ◌&&◌, cond, List, [], ◌∷◌, ◌++◌, drop, length, refl, ap, sym, ◌∙◌, subst, arith, nat_le, Some, None}
+use Rattle.std.proofs.Common.{◌≡◌, ◌≢◌, ◌≤◌, ◌<◌, ◌+◌, ℕ, zero, suc, Bool, true, false, cond, List, [], ◌∷◌, ◌++◌, drop, length, refl, ap, sym, ◌∙◌, subst, arith, nat_le, Some, None}
 use Rattle.std.specs.declared.option.Option.{Option}
 use Rattle.std.proofs.lemmas.Bool.{le-leb, leb-true}
 use Rattle.std.proofs.lemmas.List.{append-nil}
-use Rattle.base_types.specs.Tellings.{Told, Both}
 use Rattle.chain_model.specs.Chains.{ChainState}
 use Rattle.chain_token.specs.declared.token.Token.{Token}
-use Rattle.chain_token.specs.Tokens.{holder, waiting}
-use Rattle.grant_table.specs.Layouts.{LayoutShape, group_of}
-use Rattle.scan_share.specs.Scans.{update_cost, IsWhole}
+use Rattle.chain_token.specs.Tokens.{waiting}
+use Rattle.grant_table.specs.Layouts.{LayoutShape}
 use Rattle.scan_share.specs.Views.{ParkedView, OpenView}
 use Rattle.client_session.specs.declared.End.{End}
 use Rattle.client_session.specs.declared.Stand.{Stand}
 use Rattle.client_session.specs.declared.Stop.{Stop}
 use Rattle.client_session.specs.declared.progress.Progress.{Progress}
-use Rattle.client_session.specs.Seats.{Seat, EndedSession, Next, next_in, load_next, step_of, without_message, advanced, ended, taken, most_bytes, gone_end, opens_next, last_replies, rises_next}
+use Rattle.client_session.specs.Seats.{Seat, EndedSession, next_in, load_next, step_of, without_message, advanced, ended, taken, most_bytes, gone_end, opens_next, last_replies, rises_next}
 use Rattle.client_session.specs.Seats.Next.{Nothing}
-use Rattle.client_session.specs.Turns.{Turn, is_among, stepped, advanced_turn, advanced_turns, freeing_cost, gone_on, may_open}
-use Rattle.client_session.specs.Sessions.{DeskView, SessionView, Shows, stand_of, stop_of, stop_with}
-use Rattle.client_session.specs.Stores.{KeepsProgress, protocol_of, unused_of, view_of, reply_of}
-use Rattle.client_session.specs.Going.{Holds, Follows, EndsNext, IsShut}
-use Rattle.client_session.specs.Desks.{Attends, StepsTo, desk_of}
-use Rattle.client_session.specs.Calls.{ComesTo, ComesToStop, EndsSo, HasLeft, KeepsSettings, RestsThere, ShowsSeat, ShowsTap, StopsThere, WaitsThere, ended_by}
-use Rattle.client_session.proofs.Resting.{as_is, holds_step, idle_step, Rests}
+use Rattle.client_session.specs.Turns.{Turn, is_among, advanced_turn, advanced_turns, freeing_cost, may_open}
+use Rattle.client_session.specs.Sessions.{DeskView, SessionView, Shows, stand_of, stop_with}
+use Rattle.client_session.specs.Stores.{KeepsProgress, view_of}
+use Rattle.client_session.specs.Going.{EndsNext}
+use Rattle.client_session.specs.Desks.{Attends, StepsTo}
+use Rattle.client_session.specs.Calls.{ComesTo, EndsSo, HasLeft, KeepsSettings, RestsThere, ShowsSeat, StopsThere, WaitsThere}
+use Rattle.client_session.proofs.Resting.{as_is, idle_step}
 use Rattle.client_session.proofs.Quietly.{advanced_turns-add, no_rise_next}
 use Rattle.virtual_tap.specs.Views.{StandsFor}
 

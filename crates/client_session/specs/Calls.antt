@@ -14,7 +14,7 @@ use Rattle.client_session.specs.declared.halt.Halt.{Halt}
 use Rattle.client_session.specs.declared.halt.Halt.TheVariants.{Rests, Waits, Ends}
 use Rattle.client_session.specs.declared.progress.Progress.{Progress}
 use Rattle.client_session.specs.Acts.{Act}
-use Rattle.client_session.specs.Seats.{Seat, Next, next_in, advanced, ended, opens_next}
+use Rattle.client_session.specs.Seats.{Seat, next_in, advanced, ended, opens_next}
 use Rattle.client_session.specs.Seats.Next.{Nothing}
 use Rattle.client_session.specs.Turns.{Turn, is_among, freeing_cost, advanced_turn, advanced_turns}
 use Rattle.client_session.specs.Stores.{AwaitsBytes, AwaitsCapture, HasEnded, IsInTime, protocol_of, unused_of, acts_of, sampled_of, reply_of}

@@ -1,4 +1,4 @@
-use Rattle.std.proofs.Common.{◌+◌, ◌≤◌, false, ap, arith, length, refl, subst, sym}
+use Rattle.std.proofs.Common.{◌≤◌, false, arith, length, refl, subst, sym}
 use Rattle.client_session.specs.Desks.{cable_of}
 use Rattle.client_session.specs.Stores.{replied}
 use Rattle.client_session.proofs.Emptied.{reply_kept, room_left}

@@ -1,11 +1,7 @@
-use Rattle.std.proofs.Common.{◌≡◌, ◌∙◌, false, true, sym, subst, ap, Some, None}
-use Rattle.std.specs.declared.option.Option.{Option}
+use Rattle.std.proofs.Common.{◌≡◌, ◌∙◌, sym, subst, ap, Some, None}
 use Rattle.client_session.specs.declared.halt.Halt.TheVariants as halts
-use Rattle.client_session.specs.declared.End.{End}
 use Rattle.client_session.specs.Desks.{Attends, cable_of}
-use Rattle.client_session.specs.Seats.{advanced}
-use Rattle.client_session.specs.Calls.{HaltsAt, RestsThere, ended_by, is_waiting}
-use Rattle.client_session.specs.Turns.{Turn, is_among}
+use Rattle.client_session.specs.Calls.{HaltsAt, ended_by, is_waiting}
 use Rattle.client_session.proofs.Stopping.{stops_resting, stops_there, stops_waiting}
 use Rattle.client_session.proofs.progress.Progress.settle.Goals as goal
 use Rattle.client_session.proofs.progress.Progress.settle.Goals.{in-Rests, in-Ends}

@@ -1,18 +1,11 @@
-use Rattle.std.proofs.Common.{◌≡◌, ◌≤◌, ◌-◌, ◌+◌, ◌∙◌, false, true, ap, arith, length, min, refl, subst, sym}
-use Rattle.std.proofs.Math.Nat.{min-le_right}
+use Rattle.std.proofs.Common.{◌≡◌, ◌∙◌, false, true, ap, refl, subst, sym}
 use Rattle.client_session.specs.declared.Stand.{Stand}
 use Rattle.client_session.specs.Desks.{Attends, cable_of}
-use Rattle.client_session.specs.Private.{received}
-use Rattle.client_session.specs.Seats.{most_bytes}
-use Rattle.client_session.specs.Turns.{Turn}
-use Rattle.client_session.specs.Sessions.{is_in_line, is_leaving, is_here, is_waiting, stand_after}
-use Rattle.client_session.specs.Stores.{StandsSo, SessionState, replied, unused_of, view_of}
+use Rattle.client_session.specs.Sessions.{is_in_line, is_here, stand_after}
+use Rattle.client_session.specs.Stores.{StandsSo, SessionState, view_of}
 use Rattle.client_session.specs.declared.halt.Halt.TheVariants as halts
-use Rattle.client_session.specs.Calls.{CameOn, HaltsAt, RestsThere, ServedBy, ShowsFed, ShowsSeat, WaitsThere}
-use Rattle.client_session.proofs.Calling.{AtCall, begins_fed, begins_gone, begins_leaving, begins_resumed, call_came, call_failed, comes_replied, going_here, is_going, leaving_is, waits_here}
-use Rattle.client_session.proofs.Emptied.{none_left}
-use Rattle.client_session.specs.Turns.{is_among, may_open}
-use Rattle.chain_token.specs.Tokens.{holder, waiting}
+use Rattle.client_session.specs.Calls.{CameOn, RestsThere, ServedBy, WaitsThere}
+use Rattle.client_session.proofs.Calling.{AtCall, begins_gone, begins_leaving, call_came, call_failed, comes_replied, going_here, waits_here}
 use Rattle.client_session.specs.declared.Stop.{Stop}
 use Rattle.client_session.proofs.Stopping.{stops_waiting}
 use Rattle.client_session.proofs.session.Session.gone.Goals as goal

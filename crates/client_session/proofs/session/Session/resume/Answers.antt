@@ -1,16 +1,9 @@
-use Rattle.std.proofs.Common.{◌≡◌, ◌≤◌, ◌-◌, ◌+◌, ◌∙◌, false, true, ap, arith, length, min, refl, subst, sym}
-use Rattle.std.proofs.Math.Nat.{min-le_right}
-use Rattle.client_session.specs.declared.Stand.{Stand}
+use Rattle.std.proofs.Common.{◌≡◌, ◌∙◌, true, ap, subst, sym}
 use Rattle.client_session.specs.Desks.{cable_of}
-use Rattle.client_session.specs.Private.{received}
-use Rattle.client_session.specs.Seats.{most_bytes}
-use Rattle.client_session.specs.Turns.{Turn}
-use Rattle.client_session.specs.Sessions.{is_in_line, is_leaving, stand_after, view_wants}
-use Rattle.client_session.specs.Stores.{StandsSo, SessionState, replied, unused_of, view_of}
-use Rattle.client_session.specs.declared.halt.Halt.TheVariants as halts
-use Rattle.client_session.specs.Calls.{CameOn, HaltsAt, RestsThere, ServedBy, ShowsFed, ShowsSeat, WaitsThere}
-use Rattle.client_session.proofs.Calling.{AtCall, begins_fed, begins_gone, begins_leaving, begins_resumed, call_came, call_failed, comes_replied, is_going, leaving_is}
-use Rattle.client_session.proofs.Emptied.{none_left}
+use Rattle.client_session.specs.Sessions.{is_in_line, is_leaving, stand_after}
+use Rattle.client_session.specs.Stores.{SessionState, view_of}
+use Rattle.client_session.specs.Calls.{CameOn, ServedBy, ShowsSeat}
+use Rattle.client_session.proofs.Calling.{AtCall, begins_resumed, call_came, call_failed, is_going, leaving_is}
 use Rattle.client_session.proofs.session.Session.resume.Goals as goal
 
 pub returns-in-Ok-clause-came : goal.returns-in-Ok-clause-came
