@@ -8,9 +8,8 @@ ghost use Rattle.bsdl_read.specs.Contents as c;
 ghost use Rattle.bsdl_read.specs.declared.contents.ContentFault.TheVariants.{Memory};
 
 use crate::words::{capital, spelled};
-use base_types::Items;
 use bsdl_lex::{Token, TokenKind, is_digit};
-use part_model::{Digit, Pattern};
+use part_model::{CodePattern, Digit};
 use std::alloc::{AllocError, AllocFailed, Global};
 
 // Why a content is not read on: it departs from its form for a cause of the text, 8 or 9.
@@ -118,18 +117,15 @@ pub fn name_of(alloc: Global, letters: &[u8]) -> Result<String, AllocError>
 }
 
 // A pattern of these digits, of which the rightmost is the lowest.
-pub fn pattern_of(alloc: Global, digits: &[u8]) -> Result<Pattern, AllocError>
-    ensures { IfOk result (λ pattern. pattern ≡ reverse (map c.digit_of digits.now)) }
+pub fn pattern_of(digits: &[u8]) -> CodePattern
+    requires { length digits.now ≤ 64 }
+    ensures { result ≡ reverse (map c.digit_of digits.now) }
 {
-    let mut lowest_first = Vec::with_capacity(alloc, digits.len())?;
-    let mut rest = digits;
-    while let Some((digit, higher)) = rest.split_last() {
-        lowest_first.push_reserved(digit_of(*digit));
-        rest = higher;
+    let mut pattern = CodePattern::empty();
+    for digit in digits {
+        pattern = pattern.with_lowest(digit_of(*digit));
     }
-    Ok(Pattern {
-        digits: Items::from_vec(lowest_first),
-    })
+    pattern
 }
 
 // What stands between the quotes of a Text.

@@ -1,5 +1,5 @@
 // The content of INSTRUCTION_OPCODE.
-ghost use Rattle.std.specs.Prelude.{◌≡◌, ◌<◌, true, length, IfOk, IfErr, IfSome, IsTrue, Ok};
+ghost use Rattle.std.specs.Prelude.{◌≡◌, ◌<◌, ◌≤◌, true, length, IfOk, IfErr, IfSome, IsTrue, Ok};
 ghost use Rattle.std.specs.List.{list_all};
 ghost use Rattle.bsdl_lex.specs.Tokens as t;
 ghost use Rattle.bsdl_lex.specs.Tokens.{SpansRise};
@@ -13,7 +13,7 @@ use crate::contents::{
 };
 use base_types::{Items, Text};
 use bsdl_lex::{Token, in_word, is_letter};
-use part_model::{Digit, Opcode, Pattern};
+use part_model::{Digit, Opcode, Pattern, Patterns};
 use std::alloc::Global;
 use std::mem;
 
@@ -47,15 +47,22 @@ struct WholeEntry<'a> {
     behind: &'a [u8],
 }
 
-// The entry at the front, where it stands there whole, has one pattern, and has blanks behind its name alone.
+// A pattern in words has at most so many digits.
+const LONGEST: usize = 64;
+
+// The entry at the front, where it stands there whole, has one pattern of at most 64 digits, and has blanks behind its name alone.
 fn whole_entry(bytes: &[u8]) -> Option<WholeEntry<'_>>
-    ensures { IfSome result (λ entry. o.BeginsWith bytes.now entry.name.now entry.digits.now entry.behind.now) }
+    ensures is { IfSome result (λ entry. o.BeginsWith bytes.now entry.name.now entry.digits.now entry.behind.now) }
+    ensures few { IfSome result (λ entry. length entry.digits.now ≤ 64) }
 {
     let (name, behind_name) = split_run(bytes, in_word);
     let (first, _) = name.split_first()?;
     let (_, list) = split_run(behind_name, is_space);
     let (digits, end) = split_run(behind_sign(list, b'(')?, is_pattern_digit);
     let behind = behind_sign(end, b')')?;
+    if digits.len() > LONGEST {
+        return None;
+    }
     if !is_letter(*first) || digits.is_empty() {
         return None;
     }
@@ -116,7 +123,7 @@ impl OpcodeReading {
         let patterns = mem::replace(&mut self.patterns, Vec::new(alloc));
         self.done.push(Opcode {
             name: Text::from_string(name),
-            patterns: Items::from_vec(patterns),
+            patterns: Patterns::from_vec(patterns),
         })?;
         Ok(())
     }
@@ -179,16 +186,15 @@ impl OpcodeReading {
 
     // An entry that stands whole in a text.
     fn whole(&mut self, alloc: Global, letters: &[u8], digits: &[u8]) -> Result<(), ContentFault>
-        requires { list_all t.in_word letters.now ≡ true }
+        requires name { list_all t.in_word letters.now ≡ true }
+        requires few { length digits.now ≤ 64 }
         ensures { c.Steps (o.view self.new) result (Ok (o.with_whole (o.view self.old) letters.now digits.now)) }
     {
         let name = name_of(alloc, letters)?;
-        let mut patterns = Vec::with_capacity(alloc, 1)?;
-        patterns.push(pattern_of(alloc, digits)?)?;
         self.stage = OpcodeStage::Closed;
         self.done.push(Opcode {
             name: Text::from_string(name),
-            patterns: Items::from_vec(patterns),
+            patterns: Patterns::one(alloc, pattern_of(digits)),
         })?;
         Ok(())
     }

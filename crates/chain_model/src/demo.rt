@@ -7,7 +7,7 @@ ghost use Rattle.chain_model.specs.Demo.{demo_board, demo_opcodes, demo_access};
 
 use crate::cable::Board;
 use base_types::{Items, Text};
-use part_model::{Access, Digit, Opcode, Part, PartPlan, Pattern};
+use part_model::{Access, Digit, Opcode, Part, PartPlan, Pattern, Patterns};
 use scan_bits::Bits;
 use std::alloc::{AllocError, Global};
 
@@ -47,7 +47,7 @@ fn opcode(alloc: Global, name: &str, code: u64) -> Result<Opcode, AllocError>
     let name = text(alloc, name)?;
     Ok(Opcode {
         name,
-        patterns: Items::from_vec(patterns),
+        patterns: Patterns::from_vec(patterns),
     })
 }
 

@@ -4,7 +4,7 @@ ghost use Rattle.part_model.specs.Plans as plans;
 
 use crate::{Grant, Layout, LayoutRefusal, Net, Protocol, layout_fault};
 use base_types::{Items, Text};
-use part_model::{Digit, Opcode, Part, PartPlan, PartRefusal, Pattern};
+use part_model::{Digit, Opcode, Part, PartPlan, PartRefusal, Pattern, Patterns};
 use std::alloc::{AllocError, Global};
 
 fn grant(alloc: Global, devices: &[u16], port: u16) -> Result<Grant, AllocError> {
@@ -104,12 +104,12 @@ fn pattern(alloc: Global, digits: &[Digit]) -> Result<Pattern, AllocError> {
 fn small_plan(alloc: Global, boundary: u32) -> Result<PartPlan, AllocError>
     ensures { IfOk result (λ plan. plans.all_have_patterns plan.opcodes ≡ true) }
 {
-    let mut patterns = Items::from_vec(Vec::new(alloc));
+    let mut patterns = Vec::new(alloc);
     patterns.push(pattern(alloc, &[Digit::One, Digit::One])?)?;
     let mut opcodes = Items::from_vec(Vec::new(alloc));
     opcodes.push(Opcode {
         name: Text::from_string(String::from_str(alloc, "BYPASS")?),
-        patterns,
+        patterns: Patterns::from_vec(patterns),
     })?;
     Ok(PartPlan {
         ir_len: 2,

@@ -1,6 +1,6 @@
 -- Patterns of digits in words, and their words again.
 use Rattle.std.proofs.Common.{◌≡◌, ℕ, zero, suc, ◌+◌, ◌*◌, ◌/◌, ◌%◌, ◌^◌, ◌-◌, ◌<◌, ◌≤◌, ◌==◌, Bool, List, [], ◌∷◌, ◌++◌, length, map, append_assoc, subst, refl, sym, ap, ◌∙◌, arith}
-use Rattle.std.proofs.Math.Nat.{pow-suc}
+use Rattle.std.proofs.Math.Nat.{pow-suc, pow-le-pow_right}
 use Rattle.std.proofs.lemmas.Nat.{and_block, and_le_l, and_le_r}
 use Rattle.std.specs.Int.RustNames.{bit_and}
 use Rattle.scan_bits.specs.Words.{bits_of, bit_value}
@@ -82,6 +82,16 @@ care_below digit count cares ones packed = record {
       ∙ (λ i. packed.ones_care i * 2 ^ 1 + lowest_cares digit i)
       ∙ sym (low (is_one digit) ones);
 }
+
+-- one more bit below those of a word of less than 64
+pub more_fits : (count word bit : ℕ) → count < 64 → word < 2 ^ count → bit < 2 → bit + 2 * word < 2 ^ 64
+more_fits count word bit few fits lowest =
+    let most : 2 ^ count ≤ 2 ^ 63 = pow-le-pow_right {n = 2} (omega arith) {i = count} {j = 63} (omega (arith, few)) in
+    omega (arith, fits, most, lowest)
+
+-- a pattern of less than 64 digits keeps so few
+pub few_are : (count cares ones : ℕ) (digits : List Digit) → digits_of count cares ones ≡ digits → length digits < 64 → count < 64
+few_are count cares ones digits are few = omega (arith, count_is count cares ones, ap length are, few)
 
 -- ---- from the highest digit to the lowest
 

@@ -23,6 +23,7 @@ mod selections;
 mod tests;
 
 pub use part::{Part, RegNo};
+pub use patterns::{CodePattern, Patterns};
 pub use plan::{Access, Opcode, PartPlan, PartRefusal, Pattern};
 
 /// A digit of a pattern. `Any` is X.

@@ -39,6 +39,9 @@ impl<'a, V: Copy + Drop> NameIndex<'a, V> {
     pub fn find(&self, name: &'a str) -> Option<V>
         ensures { result ≡ indexes.value_of self.now name.now }
     {
+        if self.values.is_empty() {
+            return None;
+        }
         self.values.get(&(hash(name.as_bytes()), name)).copied()
     }
 
@@ -55,6 +58,9 @@ impl<'a, V: Copy + Drop> NameIndex<'a, V> {
     pub fn remove(&mut self, name: &'a str)
         ensures { (other : List ℕ) → indexes.value_of self.new other ≡ (if parts.same_name other name.now then None else indexes.value_of self.old other) }
     {
+        if self.values.is_empty() {
+            return;
+        }
         let key = (hash(name.as_bytes()), name);
         self.values.remove(&key);
     }

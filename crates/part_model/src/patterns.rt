@@ -1,5 +1,5 @@
 // Patterns of digits in words.
-ghost use Rattle.std.specs.Prelude.{◌≡◌, ◌≤◌, ◌<◌, ◌^◌, false, length, IfOk};
+ghost use Rattle.std.specs.Prelude.{◌≡◌, ◌≤◌, ◌<◌, ◌^◌, [], ◌∷◌, false, length, IfOk};
 ghost use Rattle.std.specs.List.{list_any};
 ghost use Rattle.scan_bits.specs.Words.{bit_value, bits_of};
 ghost use Rattle.part_model.specs.Digits.{is_stated, is_one};
@@ -30,8 +30,8 @@ fn one_value(digit: Digit) -> u64
     }
 }
 
-// A pattern of at most 64 digits in words: how many digits there are, a 1 for each that is not X, and a 1 for each that is 1. Bit 0 is
-// nearest TDO. Contracts see it as the list of its digits, lowest first.
+/// A pattern of at most 64 digits in words: how many digits there are, a 1 for each that is not X, and a 1 for each that is 1. Bit 0 is
+/// nearest TDO. Contracts see it as the list of its digits, lowest first.
 #[derive(Drop)]
 pub struct CodePattern {
     count: u32,
@@ -53,8 +53,38 @@ impl Model for CodePattern {
 }
 
 impl CodePattern {
+    /// The pattern of no digits.
+    pub fn empty() -> Self
+        ensures { result ≡ [] }
+    {
+        CodePattern {
+            count: 0,
+            cares: 0,
+            ones: 0,
+        }
+    }
+
+    /// The pattern with one more digit below its lowest.
+    pub fn with_lowest(self, digit: Digit) -> Self
+        requires { length self < 64 }
+        ensures { result ≡ digit ∷ self }
+    {
+        CodePattern {
+            count: self.count + 1,
+            cares: care_value(digit) + 2 * self.cares,
+            ones: one_value(digit) + 2 * self.ones,
+        }
+    }
+
+    // How many digits there are.
+    fn len(&self) -> u32
+        ensures { result ≡ length self.now }
+    {
+        self.count
+    }
+
     // The pattern of so many digits.
-    pub fn pack(count: u32, digits: &[Digit]) -> CodePattern
+    pub(crate) fn pack(count: u32, digits: &[Digit]) -> CodePattern
         requires most { count ≤ 64 }
         requires length { length digits.now ≡ count }
         ensures { result ≡ digits.now }
@@ -71,14 +101,14 @@ impl CodePattern {
     }
 
     // Whether the pattern matches a code of so many bits.
-    pub fn matches(&self, count: u32, code: u64) -> bool
+    pub(crate) fn matches(&self, count: u32, code: u64) -> bool
         ensures { result ≡ parts.matches self.now (bits_of count code) }
     {
         (code ^ self.ones) & self.cares == 0 && self.count == count
     }
 
     // The code of the pattern, X read as 0.
-    pub fn code(&self) -> u64
+    pub(crate) fn code(&self) -> u64
         ensures is { bits_of (length self.now) result ≡ plans.bits_of_pattern self.now }
         ensures bound { result < 2 ^ length self.now }
     {
@@ -95,6 +125,105 @@ impl CodePattern {
             ones: self.ones,
         }
     }
+}
+
+/// The patterns of an opcode, the first in words where it has at most 64 digits, so that one alone takes no memory. Contracts see them as
+/// the list of patterns, each of which is the list of its digits, lowest first.
+#[derive(Drop)]
+pub struct Patterns {
+    first: Option<CodePattern>,
+    // The others, and the first too where it is not in words.
+    others: Items<Pattern>,
+}
+
+impl Model for Patterns {
+    ghost use Rattle.std.specs.Prelude.{List, ◌++◌};
+    ghost use Rattle.std.specs.Option.{option_to_list};
+    ghost use Rattle.part_model.specs.declared.Digit.{Digit};
+
+    ghost Value = { List (List Digit) };
+
+    ghost view = { λ patterns. option_to_list patterns.first ++ patterns.others };
+}
+
+impl Patterns {
+    /// One pattern alone.
+    pub fn one(alloc: Global, pattern: CodePattern) -> Self
+        ensures { result ≡ pattern ∷ [] }
+    {
+        Patterns {
+            first: Some(pattern),
+            others: Items::from_vec(Vec::new(alloc)),
+        }
+    }
+
+    /// The patterns of the vector, in order. Takes no memory.
+    pub fn from_vec(list: Vec<Pattern>) -> Self
+        ensures { result ≡ list.items }
+    {
+        Patterns {
+            first: None,
+            others: Items::from_vec(list),
+        }
+    }
+
+    // Whether one of the patterns has another length.
+    pub(crate) fn any_wrong_length(&self, count: u32) -> bool
+        ensures { result ≡ list_any (plans.wrong_length count) self.now }
+    {
+        match &self.first {
+            Some(first) => first.len() != count || any_wrong_length(count, self.others.as_slice()),
+            None => any_wrong_length(count, self.others.as_slice()),
+        }
+    }
+
+    // The code of the first pattern, X read as 0.
+    pub(crate) fn first_code(&self, count: u32) -> u64
+        requires most { count ≤ 64 }
+        requires some { 0 < length self.now }
+        requires lengths { list_any (plans.wrong_length count) self.now ≡ false }
+        ensures is { bits_of count result ≡ plans.bits_of_pattern (plans.first_pattern self.now) }
+        ensures bound { result < 2 ^ count }
+    {
+        match &self.first {
+            Some(first) => first.code(),
+            None => CodePattern::pack(count, self.others.get(0).digits()).code(),
+        }
+    }
+
+    // The patterns of so many digits each in words.
+    pub(crate) fn pack(&self, alloc: Global, count: u32) -> Result<CodePatterns, AllocError>
+        requires some { 0 < length self.now }
+        requires most { count ≤ 64 }
+        requires lengths { list_any (plans.wrong_length count) self.now ≡ false }
+        ensures { IfOk result (λ packed. packed ≡ self.now) }
+    {
+        match &self.first {
+            Some(first) => packed(alloc, count, first.copy(), self.others.as_slice()),
+            None => {
+                let first = CodePattern::pack(count, self.others.get(0).digits());
+                packed(alloc, count, first, &self.others.as_slice()[1..])
+            }
+        }
+    }
+}
+
+// A pattern in words, and others of so many digits each.
+fn packed(
+    alloc: Global,
+    count: u32,
+    first: CodePattern,
+    others: &[Pattern],
+) -> Result<CodePatterns, AllocError>
+    requires most { count ≤ 64 }
+    requires lengths { list_any (plans.wrong_length count) others.now ≡ false }
+    ensures { IfOk result (λ packed. packed ≡ first ∷ others.now) }
+{
+    let others = pack_all(alloc, count, others)?;
+    Ok(CodePatterns {
+        first,
+        others: Items::from_vec(others),
+    })
 }
 
 // The patterns of an opcode in words, the first one in place. Contracts see them as the list of their digits.
@@ -114,21 +243,6 @@ impl Model for CodePatterns {
 }
 
 impl CodePatterns {
-    // The patterns of so many digits each.
-    pub fn pack(alloc: Global, count: u32, patterns: &[Pattern]) -> Result<CodePatterns, AllocError>
-        requires some { 0 < length patterns.now }
-        requires most { count ≤ 64 }
-        requires lengths { list_any (plans.wrong_length count) patterns.now ≡ false }
-        ensures { IfOk result (λ packed. packed ≡ patterns.now) }
-    {
-        let first = CodePattern::pack(count, patterns[0].digits());
-        let others = pack_all(alloc, count, &patterns[1..])?;
-        Ok(CodePatterns {
-            first,
-            others: Items::from_vec(others),
-        })
-    }
-
     // Equal patterns.
     pub fn copy(&self, alloc: Global) -> Result<CodePatterns, AllocError>
         ensures { IfOk result (λ copy. copy ≡ self.now) }
@@ -146,6 +260,24 @@ impl CodePatterns {
     {
         self.first.matches(count, code) || any_matches(self.others.as_slice(), count, code)
     }
+}
+
+// Whether a pattern has another length.
+pub fn wrong_length(count: u32, pattern: &[Digit]) -> bool
+    ensures { result ≡ plans.wrong_length count pattern.now }
+{
+    pattern.len() != count as usize
+}
+
+fn any_wrong_length(count: u32, patterns: &[Pattern]) -> bool
+    ensures { result ≡ list_any (plans.wrong_length count) patterns.now }
+{
+    for pattern in patterns {
+        if wrong_length(count, pattern.digits()) {
+            return true;
+        }
+    }
+    false
 }
 
 // Patterns of so many digits each, in order.

@@ -2,6 +2,7 @@
 ghost use Rattle.std.specs.Prelude.{◌≡◌};
 ghost use Rattle.part_model.specs.declared.plan.PartRefusal.TheVariants.{Memory, Refused};
 
+use crate::patterns::Patterns;
 use crate::{Digit, Field};
 use base_types::{Items, Text};
 use std::alloc::{AllocError, AllocFailed};
@@ -36,7 +37,7 @@ impl Pattern {
 #[derive(Drop)]
 pub struct Opcode {
     pub name: Text,
-    pub patterns: Items<Pattern>,
+    pub patterns: Patterns,
 }
 
 /// An entry of REGISTER_ACCESS: a register's name in capitals, its length in bits where it is stated, and the names of the

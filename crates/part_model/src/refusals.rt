@@ -8,6 +8,7 @@ ghost use Rattle.part_model.specs.Plans as plans;
 
 use crate::name_index::NameIndex;
 use crate::names::{same_name, spelled};
+use crate::patterns::wrong_length;
 use crate::plan::{Access, Opcode, PartPlan, PartRefusal, Pattern, PlanRefusal};
 use crate::register_index::mentioned;
 use crate::registers::{DataRegister, KnownRegisters, mention};
@@ -27,13 +28,6 @@ fn refuse_if(test: bool, cause: u8, field: Field) -> Option<PlanRefusal>
     if test { refuse(cause, field) } else { None }
 }
 
-// Whether a pattern has another length.
-fn wrong_length(count: u32, pattern: &[Digit]) -> bool
-    ensures { result ≡ plans.wrong_length count pattern.now }
-{
-    pattern.len() != count as usize
-}
-
 fn wrong_option(pattern: &Option<Pattern>) -> bool
     ensures { result ≡ plans.wrong_option pattern.now }
 {
@@ -43,22 +37,11 @@ fn wrong_option(pattern: &Option<Pattern>) -> bool
     }
 }
 
-fn any_wrong_length(count: u32, patterns: &[Pattern]) -> bool
-    ensures { result ≡ list_any (plans.wrong_length count) patterns.now }
-{
-    for pattern in patterns {
-        if wrong_length(count, pattern.digits()) {
-            return true;
-        }
-    }
-    false
-}
-
 fn has_wrong_length(count: u32, opcodes: &[Opcode]) -> bool
     ensures { result ≡ plans.any_of_another_length count opcodes.now }
 {
     for opcode in opcodes {
-        if any_wrong_length(count, opcode.patterns.as_slice()) {
+        if opcode.patterns.any_wrong_length(count) {
             return true;
         }
     }

@@ -11,22 +11,11 @@ ghost use Rattle.part_model.specs.declared.plan.PartRefusal.TheVariants.{Refused
 use crate::Field;
 use crate::codes::{code_of, is_odd, ones, word_of};
 use crate::names::{same_name, spelled};
-use crate::plan::{Opcode, PartPlan, PartRefusal, Pattern};
+use crate::plan::{Opcode, PartPlan, PartRefusal};
 use crate::refusals::has_opcode;
 use crate::registers::{DataRegister, IDCODE};
 use crate::selections::{Selection, selected, selections};
 use std::alloc::Global;
-
-// The code of the first pattern.
-fn first_code(count: u32, patterns: &[Pattern]) -> u64
-    requires most { count ≤ 64 }
-    requires some { 0 < length patterns.now }
-    requires lengths { list_any (plans.wrong_length count) patterns.now ≡ false }
-    ensures is { bits_of count result ≡ plans.bits_of_pattern (plans.first_pattern patterns.now) }
-    ensures bound { result < 2 ^ count }
-{
-    code_of(count, patterns[0].digits())
-}
 
 // The code of the first pattern of the first IDCODE opcode, or all ones.
 fn idcode_code(count: u32, opcodes: &[Opcode]) -> u64
@@ -39,7 +28,7 @@ fn idcode_code(count: u32, opcodes: &[Opcode]) -> u64
 {
     for opcode in opcodes {
         if same_name(spelled(&opcode.name), b"IDCODE") {
-            return first_code(count, opcode.patterns.as_slice());
+            return opcode.patterns.first_code(count);
         }
     }
     ones(count)

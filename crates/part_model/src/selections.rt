@@ -36,7 +36,7 @@ fn selection_of(
     ensures is { IfOk result (λ selection. parts.instruction_of selection ≡ record { name = opcode.name; patterns = opcode.patterns; register = parts.numbered register }) }
     ensures register { IfOk result (λ selection. selection.register ≡ register) }
 {
-    let patterns = CodePatterns::pack(alloc, count, opcode.patterns.as_slice())?;
+    let patterns = opcode.patterns.pack(alloc, count)?;
     Ok(Selection {
         name: opcode.name,
         patterns,

@@ -3,7 +3,7 @@ ghost use Rattle.std.specs.Prelude.{◌≡◌, ◌<◌, true, length, IfOk};
 ghost use Rattle.part_model.specs.Plans as plans;
 
 use crate::patterns::CodePattern;
-use crate::{Digit, Field, Opcode, Part, PartPlan, PartRefusal, Pattern};
+use crate::{Digit, Field, Opcode, Part, PartPlan, PartRefusal, Pattern, Patterns};
 use base_types::{Items, Text};
 use std::alloc::{AllocError, Global};
 use std::test::Fail;
@@ -18,11 +18,11 @@ fn pattern(alloc: Global, digits: &[Digit]) -> Result<Pattern, AllocError> {
 fn opcode(alloc: Global, name: &str, digit: Digit) -> Result<Opcode, AllocError>
     ensures { IfOk result (λ opcode. 0 < length opcode.patterns) }
 {
-    let mut patterns = Items::from_vec(Vec::new(alloc));
+    let mut patterns = Vec::new(alloc);
     patterns.push(pattern(alloc, &[digit, digit])?)?;
     Ok(Opcode {
         name: Text::from_string(String::from_str(alloc, name)?),
-        patterns,
+        patterns: Patterns::from_vec(patterns),
     })
 }
 

@@ -5,7 +5,7 @@ ghost use Rattle.part_model.specs.Plans.{all_have_patterns};
 use base_types::{Items, Text};
 use chain_model::Board;
 use grant_table::{Grant, Layout, Net, Protocol, layout_fault};
-use part_model::{Access, Digit, Opcode, Part, PartPlan, Pattern};
+use part_model::{Access, Digit, Opcode, Part, PartPlan, Pattern, Patterns};
 use scan_bits::Bits;
 use std::alloc::{AllocError, Global};
 
@@ -102,10 +102,12 @@ fn pattern(alloc: Global, count: u32, code: u64) -> Result<Pattern, AllocError> 
 fn opcode(alloc: Global, name: &str, digits: u32, code: u64) -> Result<Opcode, AllocError>
     ensures { IfOk result (λ opcode. 0 < length opcode.patterns) }
 {
-    let mut patterns = Items::from_vec(Vec::new(alloc));
+    let mut patterns = Vec::new(alloc);
     patterns.push(pattern(alloc, digits, code)?)?;
-    let name = text(alloc, name)?;
-    Ok(Opcode { name, patterns })
+    Ok(Opcode {
+        name: text(alloc, name)?,
+        patterns: Patterns::from_vec(patterns),
+    })
 }
 
 fn opcodes(alloc: Global, shape: Shape) -> Result<Items<Opcode>, AllocError>
