@@ -1,5 +1,5 @@
 -- Bytes of the input that came to the session, and their replies that went out.
-use Rattle.std.proofs.Common.{◌≡◌, ◌≤◌, ◌<◌, ℕ, suc, ◌+◌, ◌^◌, Bool, true, false, List, [], ◌++◌, length, take, drop, refl, ap, sym, ◌∙◌, subst, arith, length-append, append_assoc, take-append-drop, Some, None}
+use Rattle.std.proofs.Common.{◌≡◌, ◌≤◌, ◌<◌, ℕ, suc, ◌^◌, Bool, true, false, List, [], ◌++◌, length, take, drop, refl, ap, sym, ◌∙◌, subst, arith, length-append, append_assoc, take-append-drop, Some, None}
 use Rattle.std.specs.declared.option.Option.{Option}
 use Rattle.std.specs.Io.KnownBytes.{Appends, Consumes, Keeps, IsAtEnd}
 use Rattle.std.proofs.KnownBytes.{Appends-nil, Appends-trans, Consumes-nil, Consumes-trans, Consumes-kept}
@@ -10,7 +10,7 @@ use Rattle.std.specs.declared.result.Result.TheVariants.{Ok, Err}
 use Rattle.std.proofs.lemmas.List.{append-nil, take-append-le}
 use Rattle.chain_model.specs.Chains.{ChainState}
 use Rattle.chain_token.specs.declared.token.Token.{Token}
-use Rattle.grant_table.specs.Layouts.{LayoutShape, group_of}
+use Rattle.grant_table.specs.Layouts.{LayoutShape}
 use Rattle.ports.specs.Streams.{AppendsFront}
 use Rattle.scan_share.specs.Views.{ParkedView, OpenView}
 use Rattle.client_session.specs.declared.End.{End}

@@ -1,5 +1,5 @@
 -- A session of a seat by itself, between two pieces of its bytes and to its end.
-use Rattle.std.proofs.Common.{◌≡◌, ◌≤◌, ◌<◌, ℕ, zero, suc, ◌+◌, ◌-◌, Bool, true, false, not, ◌&&◌, cond, List, [], ◌∷◌, ◌++◌, length, take, drop, refl, ap, sym, ◌∙◌, subst, arith, length-append, length-take, length-drop, inl, inr, ◌⊎◌, nat_le}
+use Rattle.std.proofs.Common.{◌≡◌, ◌≤◌, ◌<◌, ℕ, zero, suc, ◌+◌, ◌-◌, Bool, true, false, cond, List, [], ◌∷◌, ◌++◌, length, take, refl, ap, sym, ◌∙◌, subst, arith, length-append, length-take, length-drop, inl, inr, ◌⊎◌, nat_le}
 use Rattle.std.specs.declared.option.Option.{Option}
 use Rattle.std.proofs.lemmas.List.{append-nil}
 use Rattle.std.proofs.lemmas.Bool.{eq-eqb}
@@ -9,11 +9,11 @@ use Rattle.grant_table.specs.declared.Protocol.TheVariants.{Xvc, Bitbang}
 use Rattle.client_session.specs.declared.End.{End}
 use Rattle.client_session.specs.Acts.{Act}
 use Rattle.client_session.specs.Acts.Act.{Say, SayTdo, Sample, Rise, Fall, Pack, SetLines, SetTrst, EndAt}
-use Rattle.client_session.specs.Seats.{Seat, Next, next_in, load_next, without_message, acted, step_of, advanced, advanced_by, steps_left, finished, IsFinished, ended, taken, most_bytes, gone_end}
+use Rattle.client_session.specs.Seats.{Seat, Next, next_in, load_next, without_message, acted, step_of, advanced, advanced_by, finished, IsFinished, ended, taken, most_bytes, gone_end}
 use Rattle.client_session.specs.Seats.Next.{Whole, RefusedAt, Nothing}
-use Rattle.client_session.specs.Private.{is_live, received, took, dropped}
+use Rattle.client_session.specs.Private.{received, took, dropped}
 use Rattle.client_session.proofs.Steps.{work, work-acted, NextFits, next_fits, stays, finished_finished}
-use Rattle.client_session.proofs.Later.{finished-advanced, finished_stays, took_early, dropped_early}
+use Rattle.client_session.proofs.Later.{finished-advanced, finished_stays}
 use Rattle.client_session.proofs.Joins.{joined_took}
 use Rattle.lone_session.specs.Serving.{EndedSo, MayEnd, after_bytes, after_input}
 

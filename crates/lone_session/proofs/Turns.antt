@@ -1,5 +1,5 @@
 -- A grant by itself at the desk: its session uses bytes that come, and ends where its peer is gone.
-use Rattle.std.proofs.Common.{◌≡◌, ◌≤◌, ◌<◌, ◌==◌, ℕ, ◌+◌, ◌-◌, Bool, true, false, cond, List, [], ◌∷◌, ◌++◌, map, min, length, drop, refl, ap, sym, ◌∙◌, subst, arith, append_assoc, length-append, inl, inr, Some, None}
+use Rattle.std.proofs.Common.{◌≡◌, ◌≤◌, ℕ, ◌+◌, ◌-◌, Bool, true, false, cond, List, [], ◌∷◌, ◌++◌, length, drop, refl, ap, sym, ◌∙◌, subst, arith, append_assoc, length-append, inl, inr, Some, None}
 use Rattle.std.specs.declared.option.Option.{Option}
 use Rattle.std.proofs.Math.Nat.{min-le_right}
 use Rattle.std.proofs.lemmas.List.{append-nil, length-map}
@@ -12,7 +12,6 @@ use Rattle.scan_share.specs.Views.{ParkedView, OpenView}
 use Rattle.scan_share.proofs.Facts.{IsGroup}
 use Rattle.scan_share.proofs.Groups.{group_of_laws}
 use Rattle.scan_share.proofs.Lookups.{length-entries_at}
-use Rattle.client_session.specs.declared.End.{End}
 use Rattle.client_session.specs.declared.Stand.{Stand}
 use Rattle.client_session.specs.declared.Stop.{Stop}
 use Rattle.client_session.specs.Seats.{Seat, EndedSession, IsFinished, finished, ended, most_bytes, replies_now, steps_left}
@@ -25,9 +24,9 @@ use Rattle.client_session.specs.Desks.{IsSound, desk_of}
 use Rattle.client_session.specs.Calls.{CameOn, ServedBy}
 use Rattle.client_session.proofs.Itself.{none_waits}
 use Rattle.client_session.proofs.Shared.{with_same, with_twice}
-use Rattle.lone_session.specs.Serving.{Closes, EndedSo, after_bytes, after_input}
+use Rattle.lone_session.specs.Serving.{EndedSo, after_bytes}
 use Rattle.lone_session.specs.Steps.{Closed, FedTo, Reached, Reaches}
-use Rattle.lone_session.proofs.Seats.{Leaves, Stays, Steps, dropped_input, ended_input, after_finished, finished_drop, many_steps, none_taken, piece_taken, taken_piece}
+use Rattle.lone_session.proofs.Seats.{Steps, dropped_input, ended_input, after_finished, finished_drop, many_steps, none_taken, piece_taken, taken_piece}
 
 -- ---- devices of the others
 

@@ -1,4 +1,4 @@
-use Rattle.std.proofs.Common.{◌∙◌, arith, false, length, subst, suc, sym}
+use Rattle.std.proofs.Common.{◌∙◌, arith, subst, suc, sym}
 use Rattle.std.specs.Prelude.{IfNone}
 use Rattle.client_session.specs.Desks.{cable_of}
 use Rattle.client_session.proofs.Calling.{always_err}

@@ -3,7 +3,7 @@ use Rattle.std.specs.Io.KnownBytes.{Consumes}
 use Rattle.client_session.specs.Desks.{cable_of}
 use Rattle.client_session.proofs.Calling.{always_err}
 use Rattle.lone_session.specs.Steps.{DroppedTo}
-use Rattle.lone_session.proofs.Runs.{cut_at_end, cut_unread, on_end, on_unread, piece_of}
+use Rattle.lone_session.proofs.Runs.{on_end, on_unread, piece_of}
 use Rattle.lone_session.proofs.turn.Goals as goal
 
 pub returns-in-Some-default-clause-went : goal.returns-in-Some-default-clause-went
