@@ -3,8 +3,8 @@ use Rattle.std.specs.Prelude.{ℕ, List, [], ◌∷◌}
 use Rattle.client_session.specs.declared.End.{End}
 use Rattle.wire_port.specs.Steps.Step.{Opened, Took}
 use Rattle.wire_port.specs.Steps.{Step}
-use Rattle.hub.specs.Plays.{Setting, Play, SessionEnd, seat_at, played}
-use Rattle.hub.specs.Alone.{replies_to}
+use Rattle.plays.specs.Plays.{Setting, Play, SessionEnd, seat_at, played}
+use Rattle.plays.specs.Alone.{replies_to}
 use Rattle.worked_rows.specs.Shown.{DeviceShown, devices_shown}
 
 -- what comes of it: the replies, the ends, the devices, and the cycles of the shared chain that are due at most

@@ -1,7 +1,7 @@
 -- Rows of scripts: several connections, a line at a time.
 use Rattle.std.specs.Prelude.{◌≡◌, ℕ, List, map}
-use Rattle.hub.specs.Plays.{Setting, Play, played}
-use Rattle.hub.specs.Schedule.{replayed}
+use Rattle.plays.specs.Plays.{Setting, Play, played}
+use Rattle.plays.specs.Schedule.{replayed}
 use Rattle.wire_port.specs.Offers.{ScriptLine}
 use Rattle.worked_rows.specs.Shown.{DeviceShown, ConnectionShown, devices_shown, connection_shown}
 

@@ -7,7 +7,7 @@ use Rattle.grant_table.specs.declared.Protocol.TheVariants.{Xvc, Bitbang}
 use Rattle.std.specs.declared.option.Option.{Option}
 use Rattle.std.specs.declared.option.Option.TheVariants.{Some}
 use Rattle.grant_table.specs.Faults.{GrantEntry, LayoutFault, layout_of}
-use Rattle.hub.specs.Plays.{Setting}
+use Rattle.plays.specs.Plays.{Setting}
 
 -- a grant of devices, counted from 1 and from TDI on, at a port
 abbrev pub grant : List ℕ → ℕ → Protocol → GrantEntry

@@ -8,9 +8,9 @@ use Rattle.chain_model.specs.Chains.{Content}
 use Rattle.client_session.specs.declared.End.{End}
 use Rattle.wire_port.specs.Steps.{taken_from}
 use Rattle.wire_port.specs.Offers.{Peer}
-use Rattle.hub.specs.Plays.{Setting, Play, SessionEnd, seat_at, is_waiting, live_grant}
-use Rattle.hub.specs.Alone.{contents, replies_to}
-use Rattle.hub.specs.Schedule.{Replay}
+use Rattle.plays.specs.Plays.{Setting, Play, SessionEnd, seat_at, is_waiting, live_grant}
+use Rattle.plays.specs.Alone.{contents, replies_to}
+use Rattle.plays.specs.Schedule.{Replay}
 
 -- a device: how often a register was captured and updated, and the latches of the boundary register and of USER as numbers
 pub record DeviceShown : Type 0 where

@@ -1,5 +1,0 @@
-use Rattle.hub.proofs.Short.{replies_short}
-use Rattle.hub.proofs.replies_are_short.Goals as goal
-
-pub returns : goal.returns
-returns c = replies_short

@@ -1,5 +1,0 @@
-use Rattle.hub.proofs.Over.{seats_over}
-use Rattle.hub.proofs.seats_are_over_the_layout.Goals as goal
-
-pub returns : goal.returns
-returns c = seats_over
