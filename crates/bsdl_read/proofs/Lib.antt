@@ -9,6 +9,7 @@ pub mod Parting
 pub mod OpcodeParts
 pub mod PatternParts
 pub mod AccessParts
+pub mod AccessWords
 pub mod Contenting
 pub mod Fronting
 pub mod Refusing

@@ -30,7 +30,7 @@ written_is_text written letters count is most all =
     let same : written ≡ map capital letters = sym (append-nil written) ∙ ap (λ (x : List ℕ). written ++ map capital x) (sym (drop_of_length-le letters most)) ∙ is in
     rw same (name_is_text letters all)
 
-name_from : (name : List ℕ) (first : ℕ) (more : List ℕ) → name ≡ first ∷ more → is_letter first ≡ true → list_all in_word name ≡ true → is_name name ≡ true
+pub name_from : (name : List ℕ) (first : ℕ) (more : List ℕ) → name ≡ first ∷ more → is_letter first ≡ true → list_all in_word name ≡ true → is_name name ≡ true
 name_from [] first more is letter all = absurd (cc is)
 name_from (byte ∷ bytes) first more is letter all =
     let same : first ≡ byte = cc is in

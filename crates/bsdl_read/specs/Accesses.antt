@@ -1,6 +1,6 @@
 -- The content of REGISTER_ACCESS: entries joined by `,`; an entry is a register, `(`, names joined by `,`, and `)`; a register is a name
 -- or `name [ number ]`. Left out of the subset, with a cause of their own: the word CAPTURES behind a name, and the instruction RUNBIST.
-use Rattle.std.specs.Prelude.{ℕ, ◌==◌, List, [], ◌∷◌, ◌++◌, codes, string_bytes, if◌then◌else◌, Result, Ok, Err}
+use Rattle.std.specs.Prelude.{ℕ, ◌==◌, List, [], ◌∷◌, ◌++◌, map, codes, string_bytes, if◌then◌else◌, Result, Ok, Err}
 use Rattle.std.specs.declared.option.Option.{Option}
 use Rattle.std.specs.declared.option.Option.TheVariants.{None, Some}
 use Rattle.bsdl_lex.specs.declared.Token.{Token}
@@ -133,6 +133,16 @@ no_entries = record { stage = stage.Entry; done = []; register = []; length = No
 -- the entries of the tokens of a VALUE, or cause 8 or 9
 abbrev pub accesses : List ℕ → List Token → Result (List Access) ℕ
 accesses text tokens = and_then (through_all next_byte text no_entries tokens) closed
+
+-- ---- what the code reads at once
+
+-- all letters of a register
+abbrev pub with_register_word : Entries → List ℕ → Entries
+with_register_word e word = record e { stage = stage.Register; register = map capital word }
+
+-- all letters of a name
+abbrev pub with_name_word : Entries → List ℕ → Entries
+with_name_word e word = record e { stage = stage.Name; name = map capital word }
 
 -- what the code keeps
 abbrev pub view : AccessReading → Entries

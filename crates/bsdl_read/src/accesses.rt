@@ -1,11 +1,16 @@
 // The content of REGISTER_ACCESS.
-ghost use Rattle.std.specs.Prelude.{◌≡◌, ◌≤◌, ◌+◌, true, length, OnOk, Ok};
+ghost use Rattle.std.specs.Prelude.{◌≡◌, ◌<◌, ◌++◌, [], true, length, string_bytes, IsTrue, IfOk, IfErr, IfSome, Ok};
+ghost use Rattle.std.specs.List.{list_all};
 ghost use Rattle.bsdl_lex.specs.Tokens as t;
 ghost use Rattle.bsdl_lex.specs.Tokens.{SpansRise};
 ghost use Rattle.bsdl_read.specs.Contents as c;
 ghost use Rattle.bsdl_read.specs.Accesses as a;
+ghost use Rattle.bsdl_read.specs.ContentGrammar.{is_name};
+ghost use Rattle.bsdl_read.specs.declared.accesses.AccessStage.TheVariants.{Entry, Instruction};
 
-use crate::contents::{ContentFault, add_letter, departs_unless, inside, is_space, whole_number};
+use crate::contents::{
+    ContentFault, add_letter, departs_unless, inside, is_space, name_of, split_run, whole_number,
+};
 use crate::words::same_word;
 use base_types::{Items, Text};
 use bsdl_lex::{Token, in_word, is_digit, is_letter};
@@ -47,6 +52,29 @@ fn word_cause(word: &[u8]) -> u8
     ensures { result ≡ a.word_cause word.now }
 {
     if same_word(word, b"CAPTURES") { 9 } else { 8 }
+}
+
+// A word, and the bytes behind it.
+#[derive(Clone, Copy)]
+struct FrontWord<'a> {
+    word: &'a [u8],
+    behind: &'a [u8],
+}
+
+// The word at the front, as far as it stands there.
+fn front_word(bytes: &[u8]) -> Option<FrontWord<'_>>
+    ensures is { IfSome result (λ front. bytes.now ≡ front.word.now ++ front.behind.now) }
+    ensures name { IfSome result (λ front. is_name front.word.now ≡ true) }
+    ensures letters { IfSome result (λ front. list_all t.in_word front.word.now ≡ true) }
+    ensures less { IfSome result (λ front. length front.behind.now < length bytes.now) }
+{
+    let (word, behind) = split_run(bytes, in_word);
+    let (first, _) = word.split_first()?;
+    if is_letter(*first) {
+        Some(FrontWord { word, behind })
+    } else {
+        None
+    }
 }
 
 impl AccessReading {
@@ -105,13 +133,15 @@ impl AccessReading {
         Ok(())
     }
 
-    // A name ends, and another is due.
+    // A name ends, and another is due. The first of an entry takes the memory of one, since most entries have one.
     fn name(&mut self, alloc: Global) -> Result<(), ContentFault>
         ensures { c.Steps (a.view self.new) result (Ok (a.with_name (a.view self.old))) }
     {
         self.stage = AccessStage::Instruction;
-        let name = String::from_str(alloc, &self.name)?;
-        self.name.clear();
+        if self.instructions.is_empty() {
+            self.instructions = Vec::with_capacity(alloc, 1)?;
+        }
+        let name = mem::replace(&mut self.name, String::new(alloc));
         self.instructions.push(Text::from_string(name))?;
         Ok(())
     }
@@ -122,8 +152,7 @@ impl AccessReading {
     {
         self.name(alloc)?;
         self.stage = AccessStage::Closed;
-        let register = String::from_str(alloc, &self.register)?;
-        self.register.clear();
+        let register = mem::replace(&mut self.register, String::new(alloc));
         let instructions = mem::replace(&mut self.instructions, Vec::new(alloc));
         self.done.push(Access {
             register: Text::from_string(register),
@@ -228,12 +257,75 @@ impl AccessReading {
         }
     }
 
+    // Whether an entry is due, and nothing of its register was read.
+    fn awaits_register(&self) -> bool
+        ensures stage { IsTrue result → self.now.stage ≡ Entry }
+        ensures none { IsTrue result → string_bytes self.now.register ≡ [] }
+    {
+        matches!(self.stage, AccessStage::Entry) && self.register.is_empty()
+    }
+
+    // Whether an instruction is due, and nothing of its name was read.
+    fn awaits_name(&self) -> bool
+        ensures stage { IsTrue result → self.now.stage ≡ Instruction }
+        ensures none { IsTrue result → string_bytes self.now.name ≡ [] }
+    {
+        matches!(self.stage, AccessStage::Instruction) && self.name.is_empty()
+    }
+
+    // All letters of a register that stand in one text.
+    fn register_word(&mut self, alloc: Global, word: &[u8]) -> Result<(), ContentFault>
+        requires { list_all t.in_word word.now ≡ true }
+        ensures { c.Steps (a.view self.new) result (Ok (a.with_register_word (a.view self.old) word.now)) }
+    {
+        self.stage = AccessStage::Register;
+        self.register = name_of(alloc, word)?;
+        Ok(())
+    }
+
+    // All letters of a name that stand in one text.
+    fn name_word(&mut self, alloc: Global, word: &[u8]) -> Result<(), ContentFault>
+        requires { list_all t.in_word word.now ≡ true }
+        ensures { c.Steps (a.view self.new) result (Ok (a.with_name_word (a.view self.old) word.now)) }
+    {
+        self.stage = AccessStage::Name;
+        self.name = name_of(alloc, word)?;
+        Ok(())
+    }
+
+    // What stands at the front, the letters of a name or one byte. Answers the bytes behind it.
+    fn next<'a>(&mut self, alloc: Global, bytes: &'a [u8]) -> Result<&'a [u8], ContentFault>
+        requires { 0 < length bytes.now }
+        ensures goes { IfOk result (λ behind. c.through a.next_byte (a.view self.new) behind.now ≡ c.through a.next_byte (a.view self.old) bytes.now) }
+        ensures less { IfOk result (λ behind. length behind.now < length bytes.now) }
+        ensures fault { IfErr result (λ fault. c.Refuses fault (c.through a.next_byte (a.view self.old) bytes.now)) }
+    {
+        if self.awaits_register() {
+            if let Some(front) = front_word(bytes) {
+                self.register_word(alloc, front.word)?;
+                return Ok(front.behind);
+            }
+        }
+        if self.awaits_name() {
+            if let Some(front) = front_word(bytes) {
+                self.name_word(alloc, front.word)?;
+                return Ok(front.behind);
+            }
+        }
+        let Some((byte, behind)) = bytes.split_first() else {
+            unreachable!()
+        };
+        self.register_byte(alloc, *byte)?;
+        Ok(behind)
+    }
+
     // The bytes of one text of the content.
     fn bytes(&mut self, alloc: Global, bytes: &[u8]) -> Result<(), ContentFault>
         ensures { c.Steps (a.view self.new) result (c.through a.next_byte (a.view self.old) bytes.now) }
     {
-        for byte in bytes {
-            self.register_byte(alloc, *byte)?;
+        let mut rest = bytes;
+        while !rest.is_empty() {
+            rest = self.next(alloc, rest)?;
         }
         Ok(())
     }

@@ -1,14 +1,15 @@
 -- Indexes of names, one name on.
-use Rattle.std.proofs.Common.{◌≡◌, ℕ, suc, ◌+◌, ◌∷◌, unwrap_or, arith, Bool, true, false, not, cond, inl, inr, List, if◌then◌else◌, refl, sym, ap, subst, ◌∙◌, ◌&&◌, ◌||◌, ◌++◌, []}
+use Rattle.std.proofs.Common.{◌≡◌, ◌<◌, length, replicate, ℕ, zero, suc, ◌+◌, ◌∷◌, unwrap_or, arith, Bool, true, false, not, cond, inl, inr, List, if◌then◌else◌, refl, sym, ap, subst, ◌∙◌, ◌&&◌, ◌||◌, ◌++◌, []}
 use Rattle.std.specs.Borrow.{Bor}
 use Rattle.std.specs.List.{list_any}
-use Rattle.std.specs.BTreeMap.{get_by}
+use Rattle.std.specs.Prelude.{slice_index_or, slice_set}
+use Rattle.std.specs.BTreeMap.{get_by, BTreeMap}
 use Rattle.std.specs.Cmp.{tied_then, nat_cmp_is}
 use Rattle.std.specs.Cmp.Lexicographic.{slice_cmp}
 use Rattle.std.specs.Ordering.{is_eq, nat_cmp, ordering_then}
 use Rattle.std.specs.declared.cmp.Ordering.{Ordering}
 use Rattle.std.specs.declared.cmp.Ordering.TheVariants.{Equal}
-use Rattle.std.proofs.lemmas.Bool.{and_from, or_left, or_right, cases_Bool}
+use Rattle.std.proofs.lemmas.Bool.{cases_eq, and_from, or_left, or_right, cases_Bool}
 use Rattle.std.proofs.lemmas.Map.Text.{is_eq-slice_cmp}
 use Rattle.std.specs.declared.option.Option.{Option}
 use Rattle.std.specs.declared.option.Option.TheVariants.{None, Some}
@@ -17,13 +18,21 @@ use Rattle.std.proofs.lemmas.List.{map-append}
 use Rattle.std.proofs.lemmas.Cmp.{nat_list_eq_equiv}
 use Rattle.part_model.specs.declared.registers.DataRegister.{DataRegister}
 use Rattle.part_model.specs.declared.name_index.NameIndex.{NameIndex}
-use Rattle.part_model.specs.NameIndexes.{hash_from, value_of, Lack, Lengths, Mentions}
+use Rattle.part_model.specs.declared.name_index.Slot.{Slot}
+use Rattle.part_model.specs.declared.name_index.Slot.TheVariants.{Empty}
+use Rattle.std.proofs.lemmas.List.{length-set, get_or-set_other, get_or_default}
+use Rattle.std.proofs.lemmas.Grind.{get_or-set_at}
+use Rattle.part_model.specs.NameIndexes.{hash_from, place, value_among, value_at, value_of, Lack, Lengths, Mentions}
 use Rattle.part_model.specs.Parts.{NamedRegister, named_of, same_name}
 use Rattle.part_model.specs.Plans.{AccessEntry, is_listed, mentioned, names_known, length_named, place_of_name}
 use Rattle.part_model.proofs.PlaceLaws.{equal_bytes, same_is, same_self}
 
 pub swapped : (xs ys : List ℕ) → same_name xs ys ≡ same_name ys xs
 swapped xs ys = sym (equal_bytes xs ys) ∙ nat_list_eq_equiv.symm xs ys ∙ equal_bytes ys xs
+
+-- the value where the test passes
+abbrev pub value_if : {V : Type 0} → Bool → V → Option V
+value_if test value = if test then Some value else None
 
 -- ---- a name and its hash
 
@@ -49,23 +58,114 @@ same_key name other = elim (cases_Bool (same_name other name)) [
 abbrev pub key_order : ℕ × Bor (List ℕ) → ℕ × Bor (List ℕ) → Ordering
 key_order left right = ordering_then (nat_cmp left.0 right.0) (slice_cmp nat_cmp left.1.now right.1.now)
 
--- another value, or none, for one name
-pub one_changed : {V : Type 0} (old new : NameIndex V) (name : Bor (List ℕ)) (hash : ℕ) (value : Option V) → hash ≡ hash_from 0 name.now
-    → ((key : ℕ × Bor (List ℕ)) → get_by (key_order key) new.values ≡ cond (is_eq (key_order (hash, name) key)) value (get_by (key_order key) old.values))
-    → (other : List ℕ) → value_of new other ≡ (if same_name other name.now then value else value_of old other)
+-- another value, or none, for one name of several
+pub one_changed : {V : Type 0} (old new : BTreeMap (ℕ × Bor (List ℕ)) V) (name : Bor (List ℕ)) (hash : ℕ) (value : Option V) → hash ≡ hash_from 0 name.now
+    → ((key : ℕ × Bor (List ℕ)) → get_by (key_order key) new ≡ cond (is_eq (key_order (hash, name) key)) value (get_by (key_order key) old))
+    → (other : List ℕ) → value_among new other ≡ (if same_name other name.now then value else value_among old other)
 one_changed old new name hash value is changed other = changed (hash_from 0 other, record { ref_ptr = (0, 0); now = other })
-    ∙ ap (λ own. cond (is_eq (ordering_then (nat_cmp own (hash_from 0 other)) (slice_cmp nat_cmp name.now other))) value (value_of old other)) is
-    ∙ ap (λ test. cond test value (value_of old other)) (same_key name.now other)
+    ∙ ap (λ own. cond (is_eq (ordering_then (nat_cmp own (hash_from 0 other)) (slice_cmp nat_cmp name.now other))) value (value_among old other)) is
+    ∙ ap (λ test. cond test value (value_among old other)) (same_key name.now other)
 
 -- the value of the name itself
-pub own_value : {V : Type 0} (index : NameIndex V) (name : Bor (List ℕ)) (hash : ℕ) → hash ≡ hash_from 0 name.now
-    → (other : List ℕ) → same_name other name.now ≡ true → get_by (key_order (hash, name)) index.values ≡ value_of index other
-own_value index name hash is other same = ap (λ own. get_by (λ key. ordering_then (nat_cmp own key.0) (slice_cmp nat_cmp name.now key.1.now)) index.values) is
-    ∙ ap (λ found. value_of index found) (sym (same_is other name.now same))
+pub own_value : {V : Type 0} (several : BTreeMap (ℕ × Bor (List ℕ)) V) (name : Bor (List ℕ)) (hash : ℕ) → hash ≡ hash_from 0 name.now
+    → (other : List ℕ) → same_name other name.now ≡ true → get_by (key_order (hash, name)) several ≡ value_among several other
+own_value several name hash is other same = ap (λ own. get_by (λ key. ordering_then (nat_cmp own key.0) (slice_cmp nat_cmp name.now key.1.now)) several) is
+    ∙ ap (λ found. value_among several found) (sym (same_is other name.now same))
 
--- the value where the test passes
-abbrev pub value_if : {V : Type 0} → Bool → V → Option V
-value_if test value = if test then Some value else None
+-- ---- one slot
+
+kept_case : {V : Type 0} (test : Bool) (first value : V) → value_if test first ≡ option_or (value_if test first) (value_if test value)
+kept_case true first value = refl
+kept_case false first value = refl
+
+-- the name is there
+pub same_kept : {V : Type 0} (kept name other : List ℕ) (first value : V) → same_name name kept ≡ true → value_if (same_name other kept) first ≡ option_or (value_if (same_name other kept) first) (value_if (same_name other name) value)
+same_kept kept name other first value same = kept_case (same_name other kept) first value
+    ∙ ap (λ found. option_or (value_if (same_name other kept) first) (value_if (same_name other found) value)) (sym (same_is name kept same))
+
+removed_name : {V : Type 0} (test other_test : Bool) (value : V) → (test ≡ true → other_test ≡ false) → value_if other_test value ≡ (if test then None else value_if other_test value)
+removed_name true other_test value apart = ap (λ found. value_if found value) (apart refl)
+removed_name false other_test value apart = refl
+
+removed_self : {V : Type 0} (test : Bool) (value : V) → None ≡ (if test then None else value_if test value)
+removed_self true value = refl
+removed_self false value = refl
+
+-- the name goes
+pub kept_removed : {V : Type 0} (kept name other : List ℕ) (value : V) → same_name name kept ≡ true → None ≡ (if same_name other name then None else value_if (same_name other kept) value)
+kept_removed kept name other value same = removed_self (same_name other name) value
+    ∙ ap (λ found. if same_name other name then None else value_if (same_name other found) value) (same_is name kept same)
+
+-- another name stays
+pub other_kept : {V : Type 0} (kept name other : List ℕ) (value : V) → same_name name kept ≡ false → value_if (same_name other kept) value ≡ (if same_name other name then None else value_if (same_name other kept) value)
+other_kept kept name other value apart = removed_name (same_name other name) (same_name other kept) value (λ same. ap (λ found. same_name found kept) (same_is other name same) ∙ apart)
+
+-- ---- one slot of all
+
+other_test : (test : Bool) {V : Type 0} (f : Bool → Option V → Option V) (old : Option V) → ((value : Option V) → f false value ≡ value) → test ≡ false → old ≡ f test old
+other_test true f old stays is = absurd (cc is)
+other_test false f old stays is = sym (stays old)
+
+pub no_more : {V : Type 0} (old : Option V) → option_or old None ≡ old
+no_more None = refl
+no_more (Some value) = refl
+
+-- an empty slot at each place
+pub all_empty : {V : Type 0} (count at : ℕ) → slice_index_or {A = Slot V} (replicate count Empty) at Empty ≡ Empty
+all_empty zero at = refl
+all_empty (suc count) zero = refl
+all_empty (suc count) (suc at) = all_empty count at
+
+-- no slot has a value
+pub none_there : {V : Type 0} (slots : List (Slot V)) (count : ℕ) → slots ≡ replicate count Empty → (at : ℕ) (name : List ℕ) → value_at (slice_index_or slots at Empty) name ≡ None
+none_there slots count is at name = ap (λ (all : List (Slot _)). value_at (slice_index_or all at Empty) name) is ∙ ap (λ slot. value_at slot name) (all_empty count at)
+
+-- there is no slot
+pub nothing_there : {V : Type 0} (slots : List (Slot V)) → length slots ≡ 0 → (at : ℕ) (name : List ℕ) → None ≡ value_at (slice_index_or slots at Empty) name
+nothing_there [] is at name = refl
+nothing_there (slot ∷ slots) is at name = absurd (omega (arith, is))
+
+-- where a name's slot changes for that name alone, its value does
+pub slot_changed : {V : Type 0} (f : Bool → Option V → Option V) → ((value : Option V) → f false value ≡ value) → (slots : List (Slot V)) (at : ℕ) (new : Slot V) (name : List ℕ)
+    → at ≡ place name (length slots) → at < length slots
+    → ((other : List ℕ) → value_at new other ≡ f (same_name other name) (value_at (slice_index_or slots at Empty) other))
+    → (other : List ℕ) → value_at (slice_index_or (slice_set slots at new) (place other (length (slice_set slots at new))) Empty) other ≡ f (same_name other name) (value_at (slice_index_or slots (place other (length slots)) Empty) other)
+slot_changed f stays slots at new name is within changed other =
+    ap (λ count. value_at (slice_index_or (slice_set slots at new) (place other count) Empty) other) (length-set slots at new)
+    ∙ elim (cases_eq (place other (length slots)) at) [
+      | inl here ↦
+          ap (λ found. value_at found other) (get_or-set_at slots at (place other (length slots)) new Empty here within)
+          ∙ changed other
+          ∙ ap (λ found. f (same_name other name) (value_at (slice_index_or slots found Empty) other)) (sym here)
+      | inr apart ↦
+          let elsewhere : same_name other name ≡ false = elim (cases_Bool (same_name other name)) [
+            | inl same ↦ absurd (apart (ap (λ found. place found (length slots)) (same_is other name same) ∙ sym is))
+            | inr different ↦ different
+          ] in
+          ap (λ found. value_at found other) (get_or-set_other slots at (place other (length slots)) new Empty apart)
+          ∙ other_test (same_name other name) f (value_at (slice_index_or slots (place other (length slots)) Empty) other) stays elsewhere
+    ]
+
+-- one name more
+pub slot_added : {V : Type 0} (slots : List (Slot V)) (at : ℕ) (old new : Slot V) (name : List ℕ) (value : V) → at ≡ place name (length slots) → at < length slots → old ≡ slice_index_or slots at old
+    → ((other : List ℕ) → value_at new other ≡ option_or (value_at old other) (value_if (same_name other name) value))
+    → (other : List ℕ) → value_at (slice_index_or (slice_set slots at new) (place other (length (slice_set slots at new))) Empty) other ≡ option_or (value_at (slice_index_or slots (place other (length slots)) Empty) other) (value_if (same_name other name) value)
+slot_added slots at old new name value is within there added = slot_changed (λ test found. option_or found (value_if test value)) no_more slots at new name is within
+    (λ other. added other ∙ ap (λ slot. option_or (value_at slot other) (value_if (same_name other name) value)) (there ∙ get_or_default slots at old Empty within))
+
+-- one name less
+pub slot_removed : {V : Type 0} (slots : List (Slot V)) (at : ℕ) (old new : Slot V) (name : List ℕ) → at ≡ place name (length slots) → at < length slots → old ≡ slice_index_or slots at old
+    → ((other : List ℕ) → value_at new other ≡ (if same_name other name then None else value_at old other))
+    → (other : List ℕ) → value_at (slice_index_or (slice_set slots at new) (place other (length (slice_set slots at new))) Empty) other ≡ (if same_name other name then None else value_at (slice_index_or slots (place other (length slots)) Empty) other)
+slot_removed slots at old new name is within there removed = slot_changed (λ test found. if test then None else found) (λ value. refl) slots at new name is within
+    (λ other. removed other ∙ ap (λ slot. if same_name other name then None else value_at slot other) (there ∙ get_or_default slots at old Empty within))
+
+-- ---- one access more
+
+pub one_access : {V : Type 0} (test : Bool) (register : V) (old more : Option V) → option_or (option_or old (value_if test register)) more ≡ option_or old (if test then Some register else more)
+one_access true register None more = refl
+one_access false register None more = refl
+one_access test register (Some first) more = refl
 
 -- ---- the instructions that have no opcode
 

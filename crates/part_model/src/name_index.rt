@@ -1,67 +1,188 @@
 // Names with a value each, that are found without a search through all of them.
-ghost use Rattle.std.specs.Prelude.{◌≡◌, ℕ, List, OnOk, None, Some, if◌then◌else◌};
+ghost use Rattle.std.specs.Prelude.{◌≡◌, ℕ, List, OnOk, IfOk, None, Some, if◌then◌else◌};
 ghost use Rattle.std.specs.Option.{option_or};
 ghost use Rattle.part_model.specs.NameIndexes as indexes;
 ghost use Rattle.part_model.specs.Parts as parts;
 
+use crate::names::same_name;
 use std::alloc::{AllocError, Global};
 use std::collections::BTreeMap;
 
-// The value that was first added for each name. A name stands behind its hash, so that mostly two numbers are compared.
+// What stands in a slot: a name with its value, several names in the order of their hashes, where equal hashes are told apart by the
+// names, or nothing.
+#[derive(Drop)]
+pub enum Slot<'a, V: Drop> {
+    One(&'a str, V),
+    Several(BTreeMap<(u64, &'a str), V>),
+    Empty,
+}
+
+// The value that was first added for each name. A name stands in the slot that its hash says.
 #[derive(Drop)]
 pub struct NameIndex<'a, V: Drop> {
-    values: BTreeMap<(u64, &'a str), V>,
+    slots: Vec<Slot<'a, V>>,
 }
 
 // The hash of a name: its bytes as digits to the base 1,000,003, the lowest 64 bits of that number.
 #[tactic(auto, unfolding(crate::specs::NameIndexes::hash_from))]
-fn hash(name: &[u8]) -> u64
+fn hash(name: &str) -> u64
     ensures { result ≡ indexes.hash_from 0 name.now }
 {
     let mut hash: u64 = 0;
-    for byte in name {
+    for byte in name.as_bytes() {
         hash = hash.wrapping_mul(1_000_003).wrapping_add(u64::from(*byte));
     }
     hash
 }
 
-impl<'a, V: Copy + Drop> NameIndex<'a, V> {
-    // No name has a value.
-    pub fn new(alloc: Global) -> Self
-        ensures { (name : List ℕ) → indexes.value_of result name ≡ None }
-    {
-        NameIndex {
-            values: BTreeMap::new(alloc),
-        }
-    }
+// The slot of a name among so many. The product spreads the hashes of short names.
+fn place(name: &str, count: usize) -> usize
+    ensures { result ≡ indexes.place name.now count }
+{
+    (hash(name).wrapping_mul(0x9e37_79b9_7f4a_7c15) >> 32) as usize % count.max(1)
+}
 
+fn is_name(name: &str, kept: &str) -> bool
+    ensures { result ≡ parts.same_name name.now kept.now }
+{
+    same_name(name.as_bytes(), kept.as_bytes())
+}
+
+// A value for a name that has none yet, among several.
+fn add_to<'a, V: Copy + Drop>(
+    several: &mut BTreeMap<(u64, &'a str), V>,
+    name: &'a str,
+    value: V,
+) -> Result<(), AllocError>
+    ensures { OnOk result ((other : List ℕ) → indexes.value_among several.new other ≡ option_or (indexes.value_among several.old other) (if parts.same_name other name.now then Some value else None)) }
+{
+    several.entry((hash(name), name))?.or_insert(value);
+    Ok(())
+}
+
+// Two names with their values, of which the first counts where the names are equal.
+fn both<'a, V: Copy + Drop>(
+    alloc: Global,
+    first: &'a str,
+    first_value: V,
+    second: &'a str,
+    second_value: V,
+) -> Result<BTreeMap<(u64, &'a str), V>, AllocError>
+    ensures { IfOk result (λ several. (other : List ℕ) → indexes.value_among several other ≡ option_or (if parts.same_name other first.now then Some first_value else None) (if parts.same_name other second.now then Some second_value else None)) }
+{
+    let mut several = BTreeMap::new(alloc);
+    add_to(&mut several, first, first_value)?;
+    add_to(&mut several, second, second_value)?;
+    Ok(several)
+}
+
+impl<'a, V: Copy + Drop> Slot<'a, V> {
     // The value of a name.
-    pub fn find(&self, name: &'a str) -> Option<V>
-        ensures { result ≡ indexes.value_of self.now name.now }
+    fn find(&self, name: &'a str) -> Option<V>
+        ensures { result ≡ indexes.value_at self.now name.now }
     {
-        if self.values.is_empty() {
-            return None;
+        match self {
+            Slot::Empty => None,
+            Slot::One(kept, value) => if is_name(name, kept) {
+                Some(*value)
+            } else {
+                None
+            },
+            Slot::Several(several) => several.get(&(hash(name), name)).copied(),
         }
-        self.values.get(&(hash(name.as_bytes()), name)).copied()
     }
 
     // A value for a name that has none yet.
-    pub fn add(&mut self, name: &'a str, value: V) -> Result<(), AllocError>
+    fn add(&mut self, alloc: Global, name: &'a str, value: V) -> Result<(), AllocError>
+        ensures { OnOk result ((other : List ℕ) → indexes.value_at self.new other ≡ option_or (indexes.value_at self.old other) (if parts.same_name other name.now then Some value else None)) }
+    {
+        match self {
+            Slot::Empty => {
+                *self = Slot::One(name, value);
+                Ok(())
+            }
+            Slot::One(kept, first) => {
+                if is_name(name, kept) {
+                    return Ok(());
+                }
+                let several = both(alloc, kept, *first, name, value)?;
+                *self = Slot::Several(several);
+                Ok(())
+            }
+            Slot::Several(several) => add_to(several, name, value),
+        }
+    }
+
+    // No value for a name.
+    fn remove(&mut self, name: &'a str)
+        ensures { (other : List ℕ) → indexes.value_at self.new other ≡ (if parts.same_name other name.now then None else indexes.value_at self.old other) }
+    {
+        match self {
+            Slot::Empty => {}
+            Slot::One(kept, _) => {
+                if is_name(name, kept) {
+                    *self = Slot::Empty;
+                }
+            }
+            Slot::Several(several) => {
+                several.remove(&(hash(name), name));
+            }
+        }
+    }
+}
+
+// So many slots stand ready for each name, so that few share one.
+const SLOTS: usize = 4;
+
+impl<'a, V: Copy + Drop> NameIndex<'a, V> {
+    // No name has a value. There is room for so many names.
+    #[tactic(auto, unfolding(crate::specs::NameIndexes::value_of))]
+    pub fn new(alloc: Global, count: usize) -> Result<Self, AllocError>
+        ensures { IfOk result (λ index. (name : List ℕ) → indexes.value_of index name ≡ None) }
+    {
+        let count = count.saturating_mul(SLOTS);
+        let mut slots = Vec::with_capacity(alloc, count)?;
+        for _ in 0..count {
+            slots.push_reserved(Slot::Empty);
+        }
+        Ok(NameIndex { slots })
+    }
+
+    // The value of a name.
+    #[tactic(auto, unfolding(crate::specs::NameIndexes::value_of))]
+    pub fn find(&self, name: &'a str) -> Option<V>
+        ensures { result ≡ indexes.value_of self.now name.now }
+    {
+        if self.slots.is_empty() {
+            return None;
+        }
+        match self.slots.get(place(name, self.slots.len())) {
+            Some(slot) => slot.find(name),
+            None => None,
+        }
+    }
+
+    // A value for a name that has none yet. The error comes where memory is wanting, or there is room for none.
+    #[tactic(auto, unfolding(crate::specs::NameIndexes::value_of))]
+    pub fn add(&mut self, alloc: Global, name: &'a str, value: V) -> Result<(), AllocError>
         ensures { OnOk result ((other : List ℕ) → indexes.value_of self.new other ≡ option_or (indexes.value_of self.old other) (if parts.same_name other name.now then Some value else None)) }
     {
-        let key = (hash(name.as_bytes()), name);
-        self.values.entry(key)?.or_insert(value);
+        let at = place(name, self.slots.len());
+        if at >= self.slots.len() {
+            return Err(AllocError);
+        }
+        self.slots[at].add(alloc, name, value)?;
         Ok(())
     }
 
     // No value for a name.
+    #[tactic(auto, unfolding(crate::specs::NameIndexes::value_of))]
     pub fn remove(&mut self, name: &'a str)
         ensures { (other : List ℕ) → indexes.value_of self.new other ≡ (if parts.same_name other name.now then None else indexes.value_of self.old other) }
     {
-        if self.values.is_empty() {
-            return;
+        let at = place(name, self.slots.len());
+        if at < self.slots.len() {
+            self.slots[at].remove(name);
         }
-        let key = (hash(name.as_bytes()), name);
-        self.values.remove(&key);
     }
 }

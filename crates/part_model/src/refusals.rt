@@ -86,21 +86,20 @@ fn captures_01(digits: &[Digit]) -> bool
     *lowest == Digit::One && *next != Digit::One
 }
 
-// The length that a register has before an access.
-fn known_length<'a>(plan: &PartPlan, known: &KnownRegisters<'a>, name: &'a str) -> Option<u32>
-    requires { indexes.Lengths (parts.named_of known.now.registers.items) known.now.lengths }
-    ensures { result ≡ plans.known_length plan.now (parts.named_of known.now.registers.items) name.now }
+// The length that a register has before an access, where this is that of the known register of its name.
+fn known_length(plan: &PartPlan, named: Option<u32>, name: &[u8]) -> Option<u32>
+    ensures { (known : List parts.NamedRegister) → named ≡ plans.length_named known name.now → result ≡ plans.known_length plan.now known name.now }
 {
-    if same_name(name.as_bytes(), b"BYPASS") {
+    if same_name(name, b"BYPASS") {
         return Some(1);
     }
-    if same_name(name.as_bytes(), b"BOUNDARY") {
+    if same_name(name, b"BOUNDARY") {
         return Some(plan.boundary);
     }
-    if same_name(name.as_bytes(), b"DEVICE_ID") {
+    if same_name(name, b"DEVICE_ID") {
         return Some(32);
     }
-    known.lengths.find(name)
+    named
 }
 
 fn any_other_than_usercode(instructions: &[Text]) -> bool
@@ -144,7 +143,7 @@ fn without_opcode<'a>(
 ) -> Result<NameIndex<'a, &'a Text>, AllocError>
     ensures { IfOk result (indexes.Lack accesses.now (map (λ opcode. opcode.name) opcodes.now)) }
 {
-    let mut instructions = mentioned(alloc, accesses)?;
+    let mut instructions = mentioned(alloc, accesses, opcodes.len())?;
     for opcode in opcodes {
         instructions.remove(opcode.name.as_str());
     }
@@ -179,18 +178,17 @@ fn differs(known: Option<u32>, stated: Option<u32>) -> bool
     }
 }
 
-// The first cause in one access.
+// The first cause in one access, where this is the length of the known register of its name.
 fn access_refusal<'a>(
     plan: &PartPlan,
     without: &NameIndex<'a, &'a Text>,
-    known: &KnownRegisters<'a>,
+    named: Option<u32>,
     access: &'a Access,
 ) -> Option<PlanRefusal>
-    requires lengths { indexes.Lengths (parts.named_of known.now.registers.items) known.now.lengths }
     requires without { indexes.Lack (access.now ∷ []) (map (λ opcode. opcode.name) plan.now.opcodes) without.now }
-    ensures { result ≡ plans.access_refusal plan.now (parts.named_of known.now.registers.items) access.now }
+    ensures { (known : List parts.NamedRegister) → named ≡ plans.length_named known access.now.register → result ≡ plans.access_refusal plan.now known access.now }
 {
-    let length = known_length(plan, known, access.register.as_str());
+    let length = known_length(plan, named, spelled(&access.register));
     if differs(length, access.length) {
         return refuse(4, Field::RegisterAccess);
     }
@@ -244,13 +242,14 @@ pub fn named_registers(alloc: Global, plan: &PartPlan) -> Result<Vec<DataRegiste
     let without = without_opcode(alloc, plan.access.as_slice(), plan.opcodes.as_slice())?;
     let mut known = KnownRegisters {
         registers: Vec::new(alloc),
-        lengths: NameIndex::new(alloc),
+        lengths: NameIndex::new(alloc, plan.access.len())?,
     };
     for access in plan.access.as_slice() {
-        if let Some(refusal) = access_refusal(plan, &without, &known, access) {
+        let length = known.lengths.find(access.register.as_str());
+        if let Some(refusal) = access_refusal(plan, &without, length, access) {
             return Err(refusal.into());
         }
-        mention(alloc, &mut known, access)?;
+        mention(alloc, &mut known, length, access)?;
     }
     Ok(known.registers)
 }

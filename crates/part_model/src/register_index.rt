@@ -20,18 +20,19 @@ pub struct RegisterIndex<'a> {
 }
 
 impl<'a> RegisterIndex<'a> {
-    // The index of these accesses and of the named registers.
+    // The index of these accesses and of the named registers, for so many opcodes.
     pub fn new(
         alloc: Global,
         accesses: &'a [Access],
         named: &'a [DataRegister],
+        opcode_count: usize,
     ) -> Result<Self, AllocError>
         requires { length named.now < 2 ^ 32 - 4 }
         ensures mentioned { IfOk result (λ index. indexes.Mentions accesses.now index.mentioned) }
         ensures places { IfOk result (λ index. indexes.Places (parts.named_of named.now) index.places) }
     {
         Ok(RegisterIndex {
-            mentioned: mentioned(alloc, accesses)?,
+            mentioned: mentioned(alloc, accesses, opcode_count)?,
             places: places(alloc, named)?,
         })
     }
@@ -51,25 +52,41 @@ impl<'a> RegisterIndex<'a> {
 }
 
 // The register of an access, for those of its instructions that have none yet.
-fn add_access<'a>(index: &mut NameIndex<'a, &'a Text>, access: &'a Access) -> Result<(), AllocError>
+fn add_access<'a>(
+    alloc: Global,
+    index: &mut NameIndex<'a, &'a Text>,
+    access: &'a Access,
+) -> Result<(), AllocError>
     ensures { OnOk result ((instruction : List ℕ) → option_map (λ name. name.now) (indexes.value_of index.new instruction) ≡ option_or (option_map (λ name. name.now) (indexes.value_of index.old instruction)) (plans.mentioned (access.now ∷ []) instruction)) }
 {
     for instruction in access.instructions.as_slice() {
-        index.add(instruction.as_str(), &access.register)?;
+        index.add(alloc, instruction.as_str(), &access.register)?;
     }
     Ok(())
 }
 
-// The register that an access names first, for each instruction.
+// How many instructions the accesses name.
+fn instruction_count(accesses: &[Access]) -> usize {
+    let mut count: usize = 0;
+    for access in accesses {
+        count = count.saturating_add(access.instructions.len());
+    }
+    count
+}
+
+// The register that an access names first, for each instruction. There is room for as many instructions as there are opcodes, since others
+// make no device type.
 pub fn mentioned<'a>(
     alloc: Global,
     accesses: &'a [Access],
+    opcode_count: usize,
 ) -> Result<NameIndex<'a, &'a Text>, AllocError>
     ensures { IfOk result (indexes.Mentions accesses.now) }
 {
-    let mut index = NameIndex::new(alloc);
+    let count = instruction_count(accesses).min(opcode_count.max(1));
+    let mut index = NameIndex::new(alloc, count)?;
     for access in accesses {
-        add_access(&mut index, access)?;
+        add_access(alloc, &mut index, access)?;
     }
     Ok(index)
 }
@@ -82,10 +99,10 @@ pub fn places<'a>(
     requires { length named.now < 2 ^ 32 - 4 }
     ensures { IfOk result (indexes.Places (parts.named_of named.now)) }
 {
-    let mut index = NameIndex::new(alloc);
+    let mut index = NameIndex::new(alloc, named.len())?;
     let mut place = 0;
     for register in named {
-        index.add(register.name.as_str(), place)?;
+        index.add(alloc, register.name.as_str(), place)?;
         place += 1;
     }
     Ok(index)

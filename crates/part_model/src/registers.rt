@@ -1,6 +1,6 @@
 // The data registers of a plan, by number: 0 BYPASS, 1 BOUNDARY, 2 and 3 DEVICE_ID by IDCODE and by USERCODE, and from 4 on the named
 // registers in the order of their first mention.
-ghost use Rattle.std.specs.Prelude.{◌≡◌, ◌<◌, ◌-◌, ◌^◌, [], ◌∷◌, length, OnOk};
+ghost use Rattle.std.specs.Prelude.{◌≡◌, ◌<◌, ◌-◌, ◌^◌, ℕ, List, [], ◌∷◌, length, OnOk};
 ghost use Rattle.part_model.specs.NameIndexes as indexes;
 ghost use Rattle.part_model.specs.Parts as parts;
 ghost use Rattle.part_model.specs.Plans as plans;
@@ -35,24 +35,25 @@ pub struct KnownRegisters<'a> {
     pub lengths: NameIndex<'a, u32>,
 }
 
-// Whether a register is among these.
-fn is_known<'a>(name: &'a str, known: &KnownRegisters<'a>) -> bool
-    requires { indexes.Lengths (parts.named_of known.now.registers.items) known.now.lengths }
-    ensures { result ≡ plans.is_listed name.now (plans.names_known (parts.named_of known.now.registers.items)) }
+// Whether a register is among those known, where this is the length of the known one of its name.
+fn is_known(length: Option<u32>) -> bool
+    ensures { (known : List parts.NamedRegister) (name : List ℕ) → length ≡ plans.length_named known name → result ≡ plans.is_listed name (plans.names_known known) }
 {
-    known.lengths.find(name).is_some()
+    length.is_some()
 }
 
 // So many named registers have numbers of 32 bits behind the first four, with one to spare.
 const MOST_NAMED: usize = 4_294_967_291;
 
-// One more access: its register joins those known, unless it is there or the standard names it. The error comes where memory is
-// wanting, or the numbers are.
+// One more access: its register joins those known, unless it is there, with its length, or the standard names it. The error comes where
+// memory is wanting, or the numbers are.
 pub fn mention<'a>(
     alloc: Global,
     known: &mut KnownRegisters<'a>,
+    known_length: Option<u32>,
     access: &'a Access,
 ) -> Result<(), AllocError>
+    requires length { known_length ≡ plans.length_named (parts.named_of known.old.registers.items) access.now.register }
     requires few { length known.old.registers.items < 2 ^ 32 - 4 }
     requires lengths { indexes.Lengths (parts.named_of known.old.registers.items) known.old.lengths }
     ensures is { OnOk result (parts.named_of known.new.registers.items ≡ plans.named_after (parts.named_of known.old.registers.items) (access.now ∷ [])) }
@@ -60,7 +61,7 @@ pub fn mention<'a>(
     ensures lengths { OnOk result (indexes.Lengths (parts.named_of known.new.registers.items) known.new.lengths) }
 {
     let name = access.register.as_str();
-    if is_standard(name.as_bytes()) || is_known(name, known) {
+    if is_standard(name.as_bytes()) || is_known(known_length) {
         return Ok(());
     }
     if known.registers.len() >= MOST_NAMED {
@@ -71,7 +72,7 @@ pub fn mention<'a>(
         name: copy_name(alloc, &access.register)?,
         length,
     };
-    known.lengths.add(name, length)?;
+    known.lengths.add(alloc, name, length)?;
     known.registers.push(register)?;
     Ok(())
 }

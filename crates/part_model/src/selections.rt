@@ -56,7 +56,7 @@ fn selected_registers<'a>(
     ensures are { IfOk result (λ found. map parts.numbered found.items ≡ map (λ opcode. plans.register_for accesses.now opcode.name) opcodes.now) }
     ensures within { IfOk result (λ found. list_all (λ register. nat_lt register (4 + length named.now)) found.items ≡ true) }
 {
-    let index = RegisterIndex::new(alloc, accesses, named)?;
+    let index = RegisterIndex::new(alloc, accesses, named, opcodes.len())?;
     let mut found = Vec::with_capacity(alloc, opcodes.len())?;
     for opcode in opcodes {
         found.push(index.register_for(named, opcode.name.as_str()))?;

@@ -1,14 +1,8 @@
-use Rattle.std.proofs.Common.{arith, ap, true, ◌≡◌, ◌∙◌}
-use Rattle.std.specs.BTreeMap.Entry.{entry_value, map_with_value}
-use Rattle.std.specs.declared.option.Option.TheVariants.{Some}
-use Rattle.part_model.specs.NameIndexes.{hash_from, value_of}
-use Rattle.part_model.specs.Parts.{same_name}
-use Rattle.part_model.proofs.NameIndexLaws.{one_changed, own_value}
+use Rattle.std.proofs.Common.{rules}
+use Rattle.part_model.specs.NameIndexes.{value_of}
+use Rattle.part_model.proofs.NameIndexLaws.{slot_added}
 use Rattle.part_model.proofs.name_index.NameIndex.add.Goals as goal
 
 pub returns : goal.returns
-returns g c = λ other.
-    let is = c.hash.ensures ∙ ap (hash_from 0) c.as_bytes.ensures.value in
-    let written = one_changed c.args.self.now (record { values = map_with_value c.in_ok-self.field-0 c.or_insert.result.now }) c.args.name c.hash.result (Some c.or_insert.result.now) is (c.in_ok-self.ensures.update.0 c.or_insert.result.now).0 other in
-    let own : same_name other c.args.name.now ≡ true → entry_value c.in_ok-self.field-0 ≡ value_of c.args.self.now other = λ same. c.in_ok-self.ensures.value ∙ own_value c.args.self.now c.args.name c.hash.result is other same in
-    grind (arith, written, own)
+unfolding value_of
+returns g c = slot_added c.args.self.now.slots.items c.place-at.result c.index_mut.result.now c.add.new.self c.args.name.now c.args.value (search rules) (search rules) c.index_mut.ensures.value c.in_ok-add.ensures
