@@ -21,6 +21,7 @@ pub mod Whole
 pub mod Places
 pub mod Taking
 pub mod Splits
+pub mod Adjacent
 pub mod Weaving
 pub mod Gathering
 pub mod Woven

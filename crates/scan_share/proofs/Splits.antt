@@ -3,9 +3,10 @@ use Rattle.std.proofs.Common.{◌≡◌, ◌≢◌, ◌≤◌, ◌<◌, ◌+◌,
 use Rattle.std.specs.declared.option.Option.{Option}
 use Rattle.std.specs.Prelude.{slice_get, nat_lt}
 use Rattle.std.specs.Option.{option_map}
-use Rattle.std.specs.List.{All, cons_option, slice_index_or}
+use Rattle.std.specs.List.{All, cons_option, slice_index_or, sum_by}
 use Rattle.std.proofs.lemmas.Bool.{cases_lt, eq-eqb, ltb-false}
 use Rattle.std.proofs.lemmas.List.{length-map, append-nil, replicate-append-replicate}
+use Rattle.std.proofs.lemmas.List.Sums.{sum_by-cons}
 use Rattle.std.proofs.lemmas.Option.{same_Some, slice_get-map, slice_get_within}
 use Rattle.grant_table.specs.Layouts.{first_place}
 use Rattle.grant_table.specs.Apart.{RisesFrom}
@@ -414,3 +415,13 @@ group_widths_counted parts group codes within coded =
     by [] codes long = refl
     by (part ∷ entries) [] long = absurd (omega (arith, long))
     by (part ∷ entries) (code ∷ codes) long = ap suc (by entries codes (omega (arith, long)))
+
+-- ---- sums of entries
+
+pub more_summed : (all : List ℕ) (sum at x : ℕ) → sum + sum_by (λ w. w) (drop at all) ≡ sum_by (λ w. w) all → slice_get all at ≡ Some x → sum + x + sum_by (λ w. w) (drop (at + 1) all) ≡ sum_by (λ w. w) all
+more_summed all sum at x whole here =
+    let next : at + 1 ≡ suc at = omega arith in
+    omega (arith, whole, ap (sum_by (λ (w : ℕ). w)) (drop_at all at x here), sum_by-cons (λ (w : ℕ). w) x (drop (suc at) all), ap (λ n. sum_by (λ (w : ℕ). w) (drop n all)) next)
+
+pub all_summed : (all : List ℕ) (sum at : ℕ) → sum + sum_by (λ w. w) (drop at all) ≡ sum_by (λ w. w) all → length all ≤ at → sum ≡ sum_by (λ w. w) all
+all_summed all sum at whole le = omega (arith, whole, ap (sum_by (λ (w : ℕ). w)) (drop_past all at le))

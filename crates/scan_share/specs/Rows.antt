@@ -1,7 +1,7 @@
 -- The bits that a scan of the shared chain shifts in, and those of the group among the bits that come out.
 use Rattle.std.specs.declared.option.Option.TheVariants.{Some}
 use Rattle.std.specs.Prelude.{ℕ, zero, suc, ◌≡◌, slice_get, ◌≤◌, ◌<◌, ◌+◌, ◌-◌, ◌^◌, Bool, true, false, List, [], ◌∷◌, ◌++◌, map, length, replicate}
-use Rattle.std.specs.List.{All}
+use Rattle.std.specs.List.{All, slice_index_or}
 use Rattle.scan_bits.specs.Words.{bits_of, number_of}
 use Rattle.part_model.specs.Parts.{DeviceType}
 use Rattle.grant_table.specs.Layouts.{LayoutShape}
@@ -76,6 +76,11 @@ pub record IsRow (group widths : List ℕ) (own place : ℕ) : Type 0 where
   pub few : place ≤ 32
   pub within : own ≤ length group
   pub split : IsSplit group own place
+
+-- the devices of a group are neighbours: each stands behind the one before it
+pub record AreNeighbours (group : List ℕ) : Type 0 where
+  pub some : 1 ≤ length group
+  pub each : (i other : ℕ) → slice_get group i ≡ Some other → other ≡ slice_index_or group 0 0 + i
 
 -- the last of the devices below a place is the last of so many of a group
 pub record IsNext (group : List ℕ) (own place : ℕ) : Type 0 where

@@ -14,6 +14,7 @@ mod code_bits;
 mod codes;
 mod group_scans;
 mod members;
+mod neighbours;
 mod own_bits;
 mod pieces;
 mod runs;

@@ -4,23 +4,23 @@ ghost use Rattle.scan_bits.specs.Words.{bits_of};
 ghost use Rattle.scan_share.specs.Rows.{TakesOwn, own_count, chosen, woven};
 
 use crate::pieces::Piece;
-use crate::runs::Runs;
+use crate::runs::ScanRuns;
 use scan_bits::Bits;
 use scan_walks::BitSink;
 
 /// Takes the bits of a read-out of the whole chain, and keeps those of the group behind the bits of a list.
 #[derive(Drop)]
-pub struct OwnBits<'a, 'b> {
-    runs: &'a mut Runs<'b>,
+pub struct OwnBits<'a, R: ScanRuns> {
+    runs: &'a mut R,
     into: &'a mut Bits,
 }
 
-impl<'a, 'b> OwnBits<'a, 'b> {
+impl<'a, R: ScanRuns> OwnBits<'a, R> {
     /// What is left of the scan is to come. There is to be room for the group's bits.
-    pub fn new(runs: &'a mut Runs<'b>, into: &'a mut Bits) -> OwnBits<'a, 'b>
-        requires room { length into.old.bits + own_count runs.old ≤ into.old.room }
-        ensures room { ⟦<OwnBits<'a, 'b> as BitSink>⟧.room result ≡ length runs.old }
-        ensures holds { (out : List Bool) → ⟦<OwnBits<'a, 'b> as BitSink>⟧.holds result out ≡ into.old.bits ++ chosen runs.old out }
+    pub fn new(runs: &'a mut R, into: &'a mut Bits) -> OwnBits<'a, R>
+        requires room { length into.old.bits + own_count (R.marks runs.old) ≤ into.old.room }
+        ensures room { ⟦<OwnBits<'a, R> as BitSink>⟧.room result ≡ length (R.marks runs.old) }
+        ensures holds { (out : List Bool) → ⟦<OwnBits<'a, R> as BitSink>⟧.holds result out ≡ into.old.bits ++ chosen (R.marks runs.old) out }
         ensures into { result.into.now ≡ into.old }
         ensures reference { result.into.ghost_name ≡ into.entry.ghost_name }
     {
@@ -29,10 +29,10 @@ impl<'a, 'b> OwnBits<'a, 'b> {
 }
 
 // Takes the next `n` bits of a scan, which are the lowest ones of `word`. Says which of them are the group's.
-fn own_of(runs: &mut Runs, n: u32, word: u64) -> Piece
+fn own_of<R: ScanRuns>(runs: &mut R, n: u32, word: u64) -> Piece
     requires few { n ≤ 64 }
-    requires left { n ≤ length runs.old }
-    ensures taken { TakesOwn n word result.count result.bits runs.old runs.new }
+    requires left { n ≤ length (R.marks runs.old) }
+    ensures taken { TakesOwn n word result.count result.bits (R.marks runs.old) (R.marks runs.new) }
 {
     let mut own = Piece { count: 0, bits: 0 };
     let mut done = 0;
@@ -46,10 +46,10 @@ fn own_of(runs: &mut Runs, n: u32, word: u64) -> Piece
     own
 }
 
-impl<'a, 'b> BitSink for OwnBits<'a, 'b> {
-    ghost holds = { λ s more. s.into.now.bits ++ chosen s.runs.now more };
+impl<'a, R: ScanRuns> BitSink for OwnBits<'a, R> {
+    ghost holds = { λ s more. s.into.now.bits ++ chosen (R.marks s.runs.now) more };
 
-    ghost room = { λ s. length (woven s.runs.now (replicate (s.into.now.room - length s.into.now.bits) false)) };
+    ghost room = { λ s. length (woven (R.marks s.runs.now) (replicate (s.into.now.room - length s.into.now.bits) false)) };
 
     ghost mark = { λ s. s.into.ghost_name ∷ s.into.now.room ∷ [] };
 

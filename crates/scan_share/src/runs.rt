@@ -17,6 +17,21 @@ pub struct Run {
     pub count: u32,
 }
 
+/// What is left of a scan of data registers, run by run, from the last device, which is nearest TDO, to the first.
+pub trait ScanRuns {
+    /// A bit for each bit of the scan that is left, the next one first: 1 where it is the group's, 0 where it is of BYPASS in another
+    /// device.
+    ghost marks: { Self → List Bool };
+
+    /// The next bits of one run, at most `most` of them. They are left no more.
+    fn next(&mut self, most: u32) -> Run
+        requires some { 1 ≤ most }
+        requires left { 1 ≤ length (marks self.old) }
+        ensures left { replicate result.count result.own ++ marks self.new ≡ marks self.old }
+        ensures some { 1 ≤ result.count }
+        ensures few { result.count ≤ most };
+}
+
 /// How far a scan came, from the last device to the first: so many devices are left, so many of the group's among them, and before those
 /// so many bits of a run, which is the group's own or not.
 #[derive(Clone, Copy)]
@@ -150,15 +165,12 @@ impl<'a> Runs<'a> {
             },
         }
     }
+}
 
-    /// The next bits of one run, at most `most` of them. They are left no more.
-    pub fn next(&mut self, most: u32) -> Run
-        requires some { 1 ≤ most }
-        requires left { 1 ≤ length self.old }
-        ensures left { replicate result.count result.own ++ self.new ≡ self.old }
-        ensures some { 1 ≤ result.count }
-        ensures few { result.count ≤ most }
-    {
+impl<'a> ScanRuns for Runs<'a> {
+    ghost marks = { λ r. r };
+
+    fn next(&mut self, most: u32) -> Run {
         let run = entered(self.group, self.widths, self.stand);
         let count = run.bits.min(most as usize);
         self.stand = Stand {

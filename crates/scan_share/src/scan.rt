@@ -1,11 +1,12 @@
 // What a scan of the shared chain is for, device by device.
-ghost use Rattle.std.specs.Prelude.{◌≡◌, ◌≢◌, ◌≤◌, ◌<◌, ◌+◌, ◌==◌, length, slice_get, true, false, Some, None};
+ghost use Rattle.std.specs.Prelude.{◌≡◌, ◌≢◌, ◌≤◌, ◌<◌, ◌+◌, ◌*◌, ◌^◌, ◌==◌, length, slice_get, true, false, Some, None};
 ghost use Rattle.grant_table.specs.Layouts.{first_place};
+ghost use Rattle.scan_share.specs.Lengths.{own_length};
 ghost use Rattle.scan_share.specs.Written.{group_widths};
 ghost use Rattle.scan_share.specs.Rows.{IsScanOf, IsSplit, own_codes, scan_words};
 
 use crate::codes::{Codes, bypass_code};
-use crate::scan_length::{Widths, put_widths};
+use crate::scan_length::{Widths, own_length, put_widths};
 use grant_table::Layout;
 use std::marker::Model;
 
@@ -120,5 +121,15 @@ impl<'a> Scan<'a> {
     {
         let _devices = self.devices();
         put_widths(self.layout, self.group, self.codes, widths);
+    }
+
+    /// How many bits the registers have together that the group's codes select.
+    #[inline(always)]
+    pub fn own_length(&self) -> usize
+        ensures is { result ≡ own_length self.now.layout self.now.group (own_codes self.now) }
+        ensures bound { result ≤ 32 * 2 ^ 32 }
+    {
+        let _devices = self.devices();
+        own_length(self.layout, self.group, self.codes)
     }
 }

@@ -41,8 +41,24 @@ pub fn put_widths(layout: &Layout, group: &[usize], codes: &[u64], widths: &mut 
     }
 }
 
-// How many bits there are together.
-fn total(widths: &[u32]) -> usize
+/// How many bits the registers of a group's devices have together under these codes.
+#[inline(always)]
+pub fn own_length(layout: &Layout, group: &[usize], codes: &[u64]) -> usize
+    requires few { length group.now ≤ 32 }
+    requires within { All (λ place. place < length layout.now.parts) group.now }
+    requires coded { length codes.now ≡ length group.now }
+    ensures is { result ≡ sum_by (λ w. w) (group_widths layout.now group.now (codes_of (entries_at layout.now.parts group.now) codes.now)) }
+    ensures bound { result ≤ 32 * 2 ^ 32 }
+{
+    let mut sum = 0;
+    for i in 0..group.len() {
+        sum += width(layout.part(group[i]), codes[i]) as usize;
+    }
+    sum
+}
+
+/// How many bits there are together.
+pub fn total(widths: &[u32]) -> usize
     requires few { length widths.now ≤ 32 }
     ensures is { result ≡ sum_by (λ w. w) widths.now }
     ensures bound { result ≤ 32 * 2 ^ 32 }
@@ -54,11 +70,12 @@ fn total(widths: &[u32]) -> usize
     sum
 }
 
-/// How many bits a scan for a grant has: those of its devices' registers, which have these widths, and one for each other device.
-pub fn scan_length(layout: &Layout, grant: usize, codes: &[u64], widths: &[u32]) -> usize
+/// How many bits a scan for a grant has: those of its devices' registers, which are `own`, and one for each other device.
+pub fn scan_length(layout: &Layout, grant: usize, codes: &[u64], own: usize) -> usize
     requires grant { grant < length layout.now.grants }
     requires codes { AreCodes (entries_at layout.now.parts (group_of layout.now.grants grant)) codes.now }
-    requires widths { widths.now ≡ group_widths layout.now (group_of layout.now.grants grant) (codes_for layout.now grant codes.now) }
+    requires own { own ≡ own_width layout.now grant codes.now }
+    requires few { own < 2 ^ 63 }
     ensures is { result ≡ scan_length layout.now (group_of layout.now.grants grant) (codes_for layout.now grant codes.now) }
     ensures group { IsGroup layout.now (group_of layout.now.grants grant) }
     ensures parts { AllParts layout.now.parts }
@@ -66,7 +83,7 @@ pub fn scan_length(layout: &Layout, grant: usize, codes: &[u64], widths: &[u32])
     ensures few { length codes.now ≤ 32 }
 {
     let group = members(layout, grant);
-    total(widths) + layout.devices() - group.len()
+    own + layout.devices() - group.len()
 }
 
 /// How many bits the registers of a grant's devices have under these instruction codes, from TDI on: those that a capture gives and an
@@ -78,7 +95,5 @@ pub fn own_width(layout: &Layout, grant: usize, codes: &[u64]) -> usize
     ensures bound { result ≤ longest_of layout.now (group_of layout.now.grants grant) }
 {
     let group = members(layout, grant);
-    let mut widths = ArrayVec::new();
-    Scan::new(layout, group, codes).put_widths(&mut widths);
-    total(&widths)
+    Scan::new(layout, group, codes).own_length()
 }

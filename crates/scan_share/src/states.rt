@@ -10,13 +10,8 @@ ghost use Rattle.scan_share.specs.Codes.{AreCodes};
 ghost use Rattle.scan_share.specs.Views.{parked_or_broken, open_or_broken, AsksAtMost, IsLoadedFor, codes_for, own_width, capture_calls, update_calls};
 
 use crate::codes::{Codes, codes_at, reset_codes};
-use crate::group_scans::{capture_to, update_from};
+use crate::group_scans::{capture_for, update_for};
 use crate::members::{Places, members, places_of};
-use crate::own_bits::OwnBits;
-use crate::runs::Runs;
-use crate::scan::Scan;
-use crate::write_bits::WriteBits;
-use arrayvec::ArrayVec;
 use chain_model::Cable;
 use grant_table::Layout;
 use scan_bits::Bits;
@@ -126,6 +121,7 @@ impl<C: Cable> Parked<C> {
     /// called once for 64 bits of each scan at most, and three times more.
     ///
     /// `Broken` comes only where the cable's count of faults rose in the call.
+    #[inline(always)]
     pub fn capture(
         self,
         layout: &Layout,
@@ -150,21 +146,13 @@ impl<C: Cable> Parked<C> {
         ensures cause { HasCause (C.fault_count self.cable) (C.fault_count (open_or_broken result)) result }
     {
         let Parked { mut line } = self;
-        let group = members(layout, grant);
-        let scan = Scan::new(layout, group, codes);
-        let mut widths = ArrayVec::new();
-        scan.put_widths(&mut widths);
-        into.clear();
-        let mut runs = Runs::new(&scan, &widths);
-        let mut sink = OwnBits::new(&mut runs, into);
-        match capture_to(
+        match capture_for(
             &mut line.cable,
             layout,
             grant,
             codes,
             &mut line.loaded,
-            &widths,
-            &mut sink,
+            into,
         ) {
             Ok(()) => {}
             Err(_) => return Err(line.broken()),
@@ -172,7 +160,7 @@ impl<C: Cable> Parked<C> {
         Ok(Open {
             line,
             grant,
-            places: places_of(group),
+            places: places_of(members(layout, grant)),
         })
     }
 
@@ -205,6 +193,7 @@ impl<C: Cable> Open<C> {
     /// bits of the scan at most, and twice more.
     ///
     /// `Broken` comes only where the cable's count of faults rose in the call.
+    #[inline(always)]
     pub fn update(
         self,
         layout: &Layout,
@@ -229,20 +218,7 @@ impl<C: Cable> Open<C> {
             grant: _,
             places: _,
         } = self;
-        let group = members(layout, grant);
-        let scan = Scan::new(layout, group, codes);
-        let mut widths = ArrayVec::new();
-        scan.put_widths(&mut widths);
-        let mut source = WriteBits::new(&scan, &widths, bits);
-        match update_from(
-            &mut line.cable,
-            layout,
-            grant,
-            codes,
-            bits,
-            &widths,
-            &mut source,
-        ) {
+        match update_for(&mut line.cable, layout, grant, codes, bits) {
             Ok(()) => {}
             Err(_) => return Err(line.broken()),
         }

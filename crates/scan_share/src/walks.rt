@@ -11,6 +11,7 @@ use chain_model::{Cable, CableFault};
 use scan_walks::{BitSink, BitSource, shift_in, shift_out};
 
 // From Run-Test/Idle an instruction scan of `count` bits, and on to Shift-DR past Capture-DR.
+#[inline(never)]
 fn load<C: Cable, S: BitSource>(
     cable: &mut C,
     codes: &mut S,
@@ -33,6 +34,7 @@ fn load<C: Cable, S: BitSource>(
 }
 
 // From Run-Test/Idle to Shift-DR past Capture-DR, by way of an instruction scan of `count` bits unless they are loaded.
+#[inline(always)]
 fn enter<C: Cable, S: BitSource>(
     cable: &mut C,
     codes: &mut S,

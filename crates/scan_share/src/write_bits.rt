@@ -1,21 +1,17 @@
 // The bits that a write shifts in.
-ghost use Rattle.std.specs.Prelude.{◌≡◌, ◌≤◌, ◌+◌, length, drop};
-ghost use Rattle.scan_bits.specs.Registers.{joined};
-ghost use Rattle.scan_share.specs.Lengths.{own_length};
-ghost use Rattle.scan_share.specs.Written.{group_widths, written};
-ghost use Rattle.scan_share.specs.Rows.{own_codes, woven};
+ghost use Rattle.std.specs.Prelude.{◌≡◌, ◌≤◌, ◌+◌, drop};
+ghost use Rattle.scan_share.specs.Rows.{woven};
 
 use crate::pieces::{Piece, Pieces, taken};
-use crate::runs::Runs;
-use crate::scan::Scan;
+use crate::runs::ScanRuns;
 use scan_bits::Bits;
 use scan_walks::BitSource;
 
 /// What is left of the bits that a write shifts in: the bits of the group's register at the group's places, and 0 for each other device,
 /// which is in BYPASS.
 #[derive(Drop)]
-pub struct WriteBits<'a> {
-    runs: Runs<'a>,
+pub struct WriteBits<'a, R: ScanRuns> {
+    runs: R,
     bits: &'a Bits,
     at: usize,
 }
@@ -28,23 +24,17 @@ fn next_place(at: usize, n: u32, end: usize) -> usize
     end.min(at + n as usize)
 }
 
-impl<'a> WriteBits<'a> {
-    /// All bits of a write of the group's registers, which have these widths, bit 0 nearest TDO.
-    pub fn new(scan: &Scan<'a>, widths: &'a [u32], bits: &'a Bits) -> WriteBits<'a>
-        requires widths { widths.now ≡ group_widths scan.now.layout scan.now.group (own_codes scan.now) }
-        requires long { length bits.now.bits ≡ own_length scan.now.layout scan.now.group (own_codes scan.now) }
-        ensures { ⟦<WriteBits<'a> as BitSource>⟧.left result ≡ joined (written scan.now.layout scan.now.group (own_codes scan.now) bits.now.bits) }
+impl<'a, R: ScanRuns> WriteBits<'a, R> {
+    /// All bits of a write of the group's registers, bit 0 nearest TDO, by the runs of the scan.
+    pub fn new(runs: R, bits: &'a Bits) -> WriteBits<'a, R>
+        ensures { ⟦<WriteBits<'a, R> as BitSource>⟧.left result ≡ woven (R.marks runs) bits.now.bits }
     {
-        WriteBits {
-            runs: Runs::new(scan, widths),
-            bits,
-            at: 0,
-        }
+        WriteBits { runs, bits, at: 0 }
     }
 }
 
-impl<'a> Pieces for WriteBits<'a> {
-    ghost left = { λ w. woven w.runs (drop w.at w.bits.now.bits) };
+impl<'a, R: ScanRuns> Pieces for WriteBits<'a, R> {
+    ghost left = { λ w. woven (R.marks w.runs) (drop w.at w.bits.now.bits) };
 
     fn next(&mut self, most: u32) -> Piece {
         let run = self.runs.next(most);
@@ -63,8 +53,8 @@ impl<'a> Pieces for WriteBits<'a> {
     }
 }
 
-impl<'a> BitSource for WriteBits<'a> {
-    ghost left = { λ w. woven w.runs (drop w.at w.bits.now.bits) };
+impl<'a, R: ScanRuns> BitSource for WriteBits<'a, R> {
+    ghost left = { λ w. woven (R.marks w.runs) (drop w.at w.bits.now.bits) };
 
     fn take(&mut self, n: u32) -> u64 {
         taken(self, n)

@@ -1,5 +1,4 @@
-use Rattle.std.proofs.Common.{◌∙◌, ap, arith, length, sym, slice_index_or, ℕ, Some}
-use Rattle.std.proofs.lemmas.Bool.{ltb-false}
+use Rattle.std.proofs.Common.{◌∙◌, ap, arith, sym, slice_index_or, ℕ, Some}
 use Rattle.scan_share.proofs.Lookups.{entry_past}
 use Rattle.scan_share.proofs.Places.{read_at}
 use Rattle.scan_share.proofs.Splits.{one_picked, none_picked}

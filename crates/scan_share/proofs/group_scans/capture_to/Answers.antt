@@ -27,7 +27,7 @@ pub returns-clause-captured : goal.returns-clause-captured
 returns-clause-captured g c =
     (capture_left c.args.layout.now c.args.grant c.args.codes.now c.args.loaded.now.items c.load-is_loaded.new.loaded.items c.load-is_loaded.result
     c.new-source.result c.scan_length-count.result (g.C.Cable.chain c.args.cable.now) (g.C.Cable.chain c.scan_out.new.cable) (g.C.Cable.ahead c.args.cable.now) (g.C.Cable.ahead c.scan_out.new.cable)
-    c.args.sink.now.into.now.bits c.args.sink.now.runs.now c.scan_out.new.sink.into.now.bits c.scan_out.new.sink.runs.now
+    c.args.sink.now.into.now.bits (g.R.ScanRuns.marks c.args.sink.now.runs.now) c.scan_out.new.sink.into.now.bits (g.R.ScanRuns.marks c.scan_out.new.sink.runs.now)
     c.scan_length-count.ensures.parts c.scan_length-count.ensures.some c.scan_length-count.ensures.group c.requires.codes (source_is c.args.layout.now c.args.grant c.args.codes.now c.deref.result.now c.new-source.result (scan_is c.args.layout.now (group_of c.args.layout.now.grants c.args.grant) c.args.codes.now c.scan_length-count.ensures.parts c.scan_length-count.ensures.some c.scan_length-count.ensures.group c.requires.codes) (c.deref.ensures.0 ∙ c.load-is_loaded.ensures.is) c.new-source.ensures)
     c.scan_length-count.ensures.is c.load-is_loaded.ensures.is
     c.load-is_loaded.ensures.same c.load-is_loaded.ensures.differ c.requires.whole c.requires.rests c.in_ok-scan_out.ensures.scanned c.requires.kept).captured
@@ -36,7 +36,7 @@ pub returns-clause-read : goal.returns-clause-read
 returns-clause-read g c =
     (capture_left c.args.layout.now c.args.grant c.args.codes.now c.args.loaded.now.items c.load-is_loaded.new.loaded.items c.load-is_loaded.result
     c.new-source.result c.scan_length-count.result (g.C.Cable.chain c.args.cable.now) (g.C.Cable.chain c.scan_out.new.cable) (g.C.Cable.ahead c.args.cable.now) (g.C.Cable.ahead c.scan_out.new.cable)
-    c.args.sink.now.into.now.bits c.args.sink.now.runs.now c.scan_out.new.sink.into.now.bits c.scan_out.new.sink.runs.now
+    c.args.sink.now.into.now.bits (g.R.ScanRuns.marks c.args.sink.now.runs.now) c.scan_out.new.sink.into.now.bits (g.R.ScanRuns.marks c.scan_out.new.sink.runs.now)
     c.scan_length-count.ensures.parts c.scan_length-count.ensures.some c.scan_length-count.ensures.group c.requires.codes (source_is c.args.layout.now c.args.grant c.args.codes.now c.deref.result.now c.new-source.result (scan_is c.args.layout.now (group_of c.args.layout.now.grants c.args.grant) c.args.codes.now c.scan_length-count.ensures.parts c.scan_length-count.ensures.some c.scan_length-count.ensures.group c.requires.codes) (c.deref.ensures.0 ∙ c.load-is_loaded.ensures.is) c.new-source.ensures)
     c.scan_length-count.ensures.is c.load-is_loaded.ensures.is
     c.load-is_loaded.ensures.same c.load-is_loaded.ensures.differ c.requires.whole c.requires.rests c.in_ok-scan_out.ensures.scanned c.requires.kept).read
@@ -45,7 +45,7 @@ pub returns-clause-length : goal.returns-clause-length
 returns-clause-length g c =
     (capture_left c.args.layout.now c.args.grant c.args.codes.now c.args.loaded.now.items c.load-is_loaded.new.loaded.items c.load-is_loaded.result
     c.new-source.result c.scan_length-count.result (g.C.Cable.chain c.args.cable.now) (g.C.Cable.chain c.scan_out.new.cable) (g.C.Cable.ahead c.args.cable.now) (g.C.Cable.ahead c.scan_out.new.cable)
-    c.args.sink.now.into.now.bits c.args.sink.now.runs.now c.scan_out.new.sink.into.now.bits c.scan_out.new.sink.runs.now
+    c.args.sink.now.into.now.bits (g.R.ScanRuns.marks c.args.sink.now.runs.now) c.scan_out.new.sink.into.now.bits (g.R.ScanRuns.marks c.scan_out.new.sink.runs.now)
     c.scan_length-count.ensures.parts c.scan_length-count.ensures.some c.scan_length-count.ensures.group c.requires.codes (source_is c.args.layout.now c.args.grant c.args.codes.now c.deref.result.now c.new-source.result (scan_is c.args.layout.now (group_of c.args.layout.now.grants c.args.grant) c.args.codes.now c.scan_length-count.ensures.parts c.scan_length-count.ensures.some c.scan_length-count.ensures.group c.requires.codes) (c.deref.ensures.0 ∙ c.load-is_loaded.ensures.is) c.new-source.ensures)
     c.scan_length-count.ensures.is c.load-is_loaded.ensures.is
     c.load-is_loaded.ensures.same c.load-is_loaded.ensures.differ c.requires.whole c.requires.rests c.in_ok-scan_out.ensures.scanned c.requires.kept).long
@@ -54,7 +54,7 @@ pub returns-clause-whole : goal.returns-clause-whole
 returns-clause-whole g c =
     (capture_left c.args.layout.now c.args.grant c.args.codes.now c.args.loaded.now.items c.load-is_loaded.new.loaded.items c.load-is_loaded.result
     c.new-source.result c.scan_length-count.result (g.C.Cable.chain c.args.cable.now) (g.C.Cable.chain c.scan_out.new.cable) (g.C.Cable.ahead c.args.cable.now) (g.C.Cable.ahead c.scan_out.new.cable)
-    c.args.sink.now.into.now.bits c.args.sink.now.runs.now c.scan_out.new.sink.into.now.bits c.scan_out.new.sink.runs.now
+    c.args.sink.now.into.now.bits (g.R.ScanRuns.marks c.args.sink.now.runs.now) c.scan_out.new.sink.into.now.bits (g.R.ScanRuns.marks c.scan_out.new.sink.runs.now)
     c.scan_length-count.ensures.parts c.scan_length-count.ensures.some c.scan_length-count.ensures.group c.requires.codes (source_is c.args.layout.now c.args.grant c.args.codes.now c.deref.result.now c.new-source.result (scan_is c.args.layout.now (group_of c.args.layout.now.grants c.args.grant) c.args.codes.now c.scan_length-count.ensures.parts c.scan_length-count.ensures.some c.scan_length-count.ensures.group c.requires.codes) (c.deref.ensures.0 ∙ c.load-is_loaded.ensures.is) c.new-source.ensures)
     c.scan_length-count.ensures.is c.load-is_loaded.ensures.is
     c.load-is_loaded.ensures.same c.load-is_loaded.ensures.differ c.requires.whole c.requires.rests c.in_ok-scan_out.ensures.scanned c.requires.kept).whole
@@ -63,7 +63,7 @@ pub returns-clause-asked : goal.returns-clause-asked
 returns-clause-asked g c =
     (capture_left c.args.layout.now c.args.grant c.args.codes.now c.args.loaded.now.items c.load-is_loaded.new.loaded.items c.load-is_loaded.result
     c.new-source.result c.scan_length-count.result (g.C.Cable.chain c.args.cable.now) (g.C.Cable.chain c.scan_out.new.cable) (g.C.Cable.ahead c.args.cable.now) (g.C.Cable.ahead c.scan_out.new.cable)
-    c.args.sink.now.into.now.bits c.args.sink.now.runs.now c.scan_out.new.sink.into.now.bits c.scan_out.new.sink.runs.now
+    c.args.sink.now.into.now.bits (g.R.ScanRuns.marks c.args.sink.now.runs.now) c.scan_out.new.sink.into.now.bits (g.R.ScanRuns.marks c.scan_out.new.sink.runs.now)
     c.scan_length-count.ensures.parts c.scan_length-count.ensures.some c.scan_length-count.ensures.group c.requires.codes (source_is c.args.layout.now c.args.grant c.args.codes.now c.deref.result.now c.new-source.result (scan_is c.args.layout.now (group_of c.args.layout.now.grants c.args.grant) c.args.codes.now c.scan_length-count.ensures.parts c.scan_length-count.ensures.some c.scan_length-count.ensures.group c.requires.codes) (c.deref.ensures.0 ∙ c.load-is_loaded.ensures.is) c.new-source.ensures)
     c.scan_length-count.ensures.is c.load-is_loaded.ensures.is
     c.load-is_loaded.ensures.same c.load-is_loaded.ensures.differ c.requires.whole c.requires.rests c.in_ok-scan_out.ensures.scanned c.requires.kept).asked
@@ -72,7 +72,7 @@ pub returns-clause-open : goal.returns-clause-open
 returns-clause-open g c =
     (capture_left c.args.layout.now c.args.grant c.args.codes.now c.args.loaded.now.items c.load-is_loaded.new.loaded.items c.load-is_loaded.result
     c.new-source.result c.scan_length-count.result (g.C.Cable.chain c.args.cable.now) (g.C.Cable.chain c.scan_out.new.cable) (g.C.Cable.ahead c.args.cable.now) (g.C.Cable.ahead c.scan_out.new.cable)
-    c.args.sink.now.into.now.bits c.args.sink.now.runs.now c.scan_out.new.sink.into.now.bits c.scan_out.new.sink.runs.now
+    c.args.sink.now.into.now.bits (g.R.ScanRuns.marks c.args.sink.now.runs.now) c.scan_out.new.sink.into.now.bits (g.R.ScanRuns.marks c.scan_out.new.sink.runs.now)
     c.scan_length-count.ensures.parts c.scan_length-count.ensures.some c.scan_length-count.ensures.group c.requires.codes (source_is c.args.layout.now c.args.grant c.args.codes.now c.deref.result.now c.new-source.result (scan_is c.args.layout.now (group_of c.args.layout.now.grants c.args.grant) c.args.codes.now c.scan_length-count.ensures.parts c.scan_length-count.ensures.some c.scan_length-count.ensures.group c.requires.codes) (c.deref.ensures.0 ∙ c.load-is_loaded.ensures.is) c.new-source.ensures)
     c.scan_length-count.ensures.is c.load-is_loaded.ensures.is
     c.load-is_loaded.ensures.same c.load-is_loaded.ensures.differ c.requires.whole c.requires.rests c.in_ok-scan_out.ensures.scanned c.requires.kept).held

@@ -1,34 +1,22 @@
-use Rattle.std.proofs.Common.{◌∙◌, ap, arith, length, ℕ}
-use Rattle.std.specs.List.{sum_by}
+use Rattle.std.proofs.Common.{ap, arith, length}
 use Rattle.grant_table.specs.Layouts.{group_of}
-use Rattle.scan_share.proofs.Ready.{coded, count_is, widths_counted}
+use Rattle.scan_share.proofs.Ready.{coded, count_is}
 use Rattle.scan_share.proofs.scan_length.scan_length.Goals as goal
-
-pub total-requires : goal.total-requires
-total-requires c = record {
-  few = omega (
-    arith,
-    ap length c.requires.widths,
-    widths_counted c.args.layout.now (group_of c.args.layout.now.grants c.args.grant) c.args.codes.now c.members-group.ensures.group c.requires.codes,
-    ap length c.members-group.ensures.is,
-    c.members-group.ensures.few,
-  );
-}
 
 pub overflow_sub-result : goal.overflow_sub-result
 overflow_sub-result c =
     omega (
       arith,
-      count_is c.args.layout.now (group_of c.args.layout.now.grants c.args.grant) c.args.codes.now c.total.result c.devices.result (length c.members-group.result.now) c.members-group.ensures.group c.requires.codes
-          (c.total.ensures.is ∙ ap (sum_by (λ (w : ℕ). w)) c.requires.widths) c.devices.ensures.is (ap length c.members-group.ensures.is),
+      count_is c.args.layout.now (group_of c.args.layout.now.grants c.args.grant) c.args.codes.now c.args.own c.devices.result (length c.members-group.result.now) c.members-group.ensures.group c.requires.codes
+          c.requires.own c.devices.ensures.is (ap length c.members-group.ensures.is),
     )
 
 pub returns-clause-is : goal.returns-clause-is
 returns-clause-is c =
     omega (
       arith,
-      count_is c.args.layout.now (group_of c.args.layout.now.grants c.args.grant) c.args.codes.now c.total.result c.devices.result (length c.members-group.result.now) c.members-group.ensures.group c.requires.codes
-          (c.total.ensures.is ∙ ap (sum_by (λ (w : ℕ). w)) c.requires.widths) c.devices.ensures.is (ap length c.members-group.ensures.is),
+      count_is c.args.layout.now (group_of c.args.layout.now.grants c.args.grant) c.args.codes.now c.args.own c.devices.result (length c.members-group.result.now) c.members-group.ensures.group c.requires.codes
+          c.requires.own c.devices.ensures.is (ap length c.members-group.ensures.is),
     )
 
 pub returns-clause-few : goal.returns-clause-few

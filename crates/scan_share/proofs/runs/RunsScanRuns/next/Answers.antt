@@ -1,7 +1,7 @@
 use Rattle.std.proofs.Common.{arith, ◌∙◌}
 use Rattle.scan_share.specs.Rows.{marks_below}
 use Rattle.scan_share.proofs.Places.{run_split}
-use Rattle.scan_share.proofs.runs.Runs.next.Goals as goal
+use Rattle.scan_share.proofs.runs.RunsScanRuns.next.Goals as goal
 
 pub returns-clause-left : goal.returns-clause-left
 returns-clause-left c =
