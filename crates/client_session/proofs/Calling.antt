@@ -198,11 +198,11 @@ came_of layout grant view given old_desk new_desk turn stop holds comes =
 
 -- ---- where the cable failed
 
-free_stays : (steps : ℕ) (seat : Seat) → seat.going ≡ false → advanced_by steps seat ≡ seat
+pub free_stays : (steps : ℕ) (seat : Seat) → seat.going ≡ false → advanced_by steps seat ≡ seat
 free_stays zero seat h = refl
 free_stays (suc steps) seat h = let still : advanced seat ≡ seat = rw h refl in ap (advanced_by steps) still ∙ free_stays steps seat h
 
-replies_on : (steps : ℕ) (seat : Seat) → seat.going ≡ true → IsPrefix seat.replies (replies_now (advanced_by steps seat))
+pub replies_on : (steps : ℕ) (seat : Seat) → seat.going ≡ true → IsPrefix seat.replies (replies_now (advanced_by steps seat))
 replies_on zero seat g = ([], append-nil seat.replies ∙ sym (rw g refl))
 replies_on (suc steps) seat g = elim (advanced_kind seat) [
   | inl on ↦ let then = replies_on steps (advanced seat) (on.going ∙ g) in (on.more ++ then.0, sym (append_assoc seat.replies on.more then.0) ∙ ap (λ r. r ++ then.0) on.replies ∙ then.1)

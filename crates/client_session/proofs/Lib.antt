@@ -33,3 +33,4 @@ pub mod Edges
 pub mod LineActs
 pub mod Messaging
 pub mod Lettering
+pub mod ByBytes

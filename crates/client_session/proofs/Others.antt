@@ -1,14 +1,17 @@
 -- What the calls of one grant at the desk leave of the others.
-use Rattle.std.proofs.Common.{◌≡◌, ◌==◌, ℕ, Bool, true, false, not, cond, List, [], ◌∷◌, ◌++◌, refl, ap, sym, ◌∙◌, Some, None}
+use Rattle.std.proofs.Common.{◌≡◌, ◌==◌, ℕ, Bool, true, false, not, ◌&&◌, cond, List, [], ◌∷◌, ◌++◌, refl, ap, sym, ◌∙◌, Some, None}
 use Rattle.std.specs.declared.option.Option.{Option}
 use Rattle.std.proofs.lemmas.Bool.{eq-eqb, eqb-true}
 use Rattle.chain_token.specs.declared.token.Token.{Token}
 use Rattle.chain_token.specs.declared.token.Asked.TheVariants as asked
 use Rattle.chain_token.specs.Tokens.{Answers, holder, holder_of, waiting}
-use Rattle.chain_token.specs.Waiting.{is_among, with_waiting, without}
+use Rattle.chain_token.specs.Waiting.{is_among, may_open, with_waiting, without}
 use Rattle.scan_share.specs.Views.{ParkedView, OpenView}
+use Rattle.tap_states.specs.States.{is_capture_dr}
+use Rattle.virtual_tap.specs.Views.{TapView, at_capture}
 use Rattle.client_session.specs.Turns.{is_holder}
-use Rattle.client_session.specs.Desks.{KeepsOthers}
+use Rattle.client_session.specs.Desks.{IsBlocked, KeepsOthers}
+use Rattle.client_session.proofs.Resting.{may_with}
 
 never : {A : Type 0} → false ≡ true → A
 never e = absurd (let q : false ≡ true = e in cc)
@@ -86,3 +89,15 @@ module _ {C : Type 0} (grant : ℕ) where
     gained = λ other h n. absurd (n (let q : Some grant ≡ Some other = sym mine ∙ h in let r : other ≡ grant = cc in r));
     line = ap (without grant) (line ∙ answer.2) ∙ without_twice grant (waiting desk);
   }
+
+  -- it waits because it may not open a scan, which it does not hold
+  pub blocked_waited : (view : TapView) (desk next : Token (ParkedView C) (OpenView C)) → at_capture view ≡ true → is_holder (holder desk) grant ≡ view.scan_open → Answers desk grant (asked.Wait next) → IsBlocked grant next
+  blocked_waited view desk next capture holds answer = record {
+    holds = ap (λ side. is_holder (holder_of side) grant) answer.1 ∙ holds ∙ shut (is_capture_dr view.state) view.scan_open capture;
+    opens = ap (λ side. may_open (holder_of side) (waiting next) grant) answer.1 ∙ ap (λ waits. may_open (holder desk) waits grant) answer.2 ∙ may_with (holder desk) (waiting desk) grant answer.0;
+  }
+    where
+      shut : (here scan : Bool) → (here && not scan) ≡ true → scan ≡ false
+      shut here false h = refl
+      shut true true h = never h
+      shut false true h = never h

@@ -33,7 +33,7 @@ joined grant waiting = by (is_among grant waiting) refl
     by false e = last waiting
 
 -- a grant that joins those that wait may still not open a scan
-may_with : (holder : Option ℕ) (waiting : List ℕ) (grant : ℕ) → may_open holder waiting grant ≡ false → may_open holder (with_waiting grant waiting) grant ≡ false
+pub may_with : (holder : Option ℕ) (waiting : List ℕ) (grant : ℕ) → may_open holder waiting grant ≡ false → may_open holder (with_waiting grant waiting) grant ≡ false
 may_with (Some h) waiting grant e = refl
 may_with None [] grant e = never (sym e)
 may_with None (first ∷ rest) grant e = by (is_among grant (first ∷ rest))

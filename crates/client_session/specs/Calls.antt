@@ -1,5 +1,5 @@
 -- What a call makes of a session, beside the turn that it stands for.
-use Rattle.std.specs.Prelude.{ℕ, ◌≡◌, Bool, true, false, List, [], ◌∷◌, ◌++◌, is_some}
+use Rattle.std.specs.Prelude.{ℕ, ◌+◌, ◌≡◌, Bool, true, false, nat_le, List, [], ◌∷◌, ◌++◌, is_some, length, if◌then◌else◌}
 use Rattle.std.specs.declared.option.Option.{Option}
 use Rattle.std.specs.declared.option.Option.TheVariants.{None, Some}
 use Rattle.chain_model.specs.Chains.{ChainState}
@@ -9,12 +9,14 @@ use Rattle.scan_share.specs.Views.{ParkedView, OpenView}
 use Rattle.scan_share.specs.Scans.{types_of, update_cost}
 use Rattle.virtual_tap.specs.Views.{StandsFor}
 use Rattle.client_session.specs.declared.End.{End}
+use Rattle.client_session.specs.declared.End.TheVariants as ends
 use Rattle.client_session.specs.declared.Stop.{Stop}
+use Rattle.client_session.specs.declared.Stop.TheVariants as stops
 use Rattle.client_session.specs.declared.halt.Halt.{Halt}
 use Rattle.client_session.specs.declared.halt.Halt.TheVariants.{Rests, Waits, Ends}
 use Rattle.client_session.specs.declared.progress.Progress.{Progress}
 use Rattle.client_session.specs.Acts.{Act}
-use Rattle.client_session.specs.Seats.{Seat, next_in, advanced, ended, opens_next}
+use Rattle.client_session.specs.Seats.{Seat, next_in, advanced, ended, gone_end, most_bytes, opens_next}
 use Rattle.client_session.specs.Seats.Next.{Nothing}
 use Rattle.client_session.specs.Turns.{Turn, is_among, freeing_cost, advanced_turn, advanced_turns}
 use Rattle.client_session.specs.Stores.{AwaitsBytes, AwaitsCapture, HasEnded, IsInTime, protocol_of, unused_of, acts_of, sampled_of, reply_of}
@@ -148,6 +150,25 @@ pub record HasReplied (progress : Progress) (given : List ℕ) (turn : Turn) : T
 abbrev pub ended_by : Option End → Seat → Seat
 ended_by None seat = seat
 ended_by (Some end) seat = ended end seat
+
+-- how a session ends that waits for bytes, over every cable: at the most bytes, or where its peer is gone
+abbrev pub rest_end : (gone : Bool) → (used : ℕ) → (unused : List ℕ) → Option End
+rest_end gone used unused = if nat_le most_bytes (used + length unused) then Some (ends.Long most_bytes) else (if gone then Some (gone_end used unused) else None)
+
+abbrev pub stop_by : Option End → Stop
+stop_by None = stops.Done
+stop_by (Some end) = stops.Ended end
+
+-- how a call stops, by what the session came to
+abbrev pub halt_stop : Halt → (gone : Bool) → (used : ℕ) → (unused : List ℕ) → Stop
+halt_stop Rests gone used unused = stop_by (rest_end gone used unused)
+halt_stop Waits gone used unused = stops.Waits
+halt_stop (Ends end) gone used unused = stops.Ended end
+
+-- until a session ends, so many of its bytes were taken
+abbrev pub TakesOn : Stop → (taken now : ℕ) → Type 0
+TakesOn (stops.Ended end) taken now = Unit {0}
+TakesOn _ taken now = now ≡ taken
 
 -- a session that ended, before its seat is used again: what it shows is the free seat, and the reply that is left to give
 pub record HasLeft (old new : Progress) : Type 0 where

@@ -1,5 +1,5 @@
 -- The desk with the shared chain, as the calls of a session see it.
-use Rattle.std.specs.Prelude.{ℕ, ◌≡◌, ◌≢◌, ◌≤◌, ◌<◌, List, Bool, true, length}
+use Rattle.std.specs.Prelude.{ℕ, ◌≡◌, ◌≢◌, ◌≤◌, ◌<◌, List, Bool, true, false, length}
 use Rattle.std.specs.declared.option.Option.{Option}
 use Rattle.std.specs.declared.option.Option.TheVariants.{None, Some}
 use Rattle.std.specs.declared.result.Result.{Result}
@@ -14,6 +14,7 @@ use Rattle.chain_token.specs.declared.token.Side.{Side}
 use Rattle.chain_token.specs.declared.token.Side.TheVariants.{Free, Held}
 use Rattle.chain_token.specs.declared.token.Token.{Token}
 use Rattle.chain_token.specs.Tokens.{holder, waiting}
+use Rattle.chain_token.specs.Waiting.{may_open}
 use Rattle.grant_table.specs.Layouts.{LayoutShape, group_of}
 use Rattle.grant_table.specs.Kept.{AllParts}
 use Rattle.scan_share.specs.Laws.{IsGroup}
@@ -78,6 +79,16 @@ pub record KeepsOthers {C : Type 0} (grant : ℕ) (desk next : Token (ParkedView
   pub held : (other : ℕ) → holder desk ≡ Some other → other ≢ grant → next.side ≡ desk.side
   pub gained : (other : ℕ) → holder next ≡ Some other → other ≢ grant → next.side ≡ desk.side
   pub line : without grant (waiting next) ≡ without grant (waiting desk)
+
+-- a grant may not open a scan at the desk, for another holds it, or waits for it before the grant
+pub record IsBlocked {C : Type 0} (grant : ℕ) (desk : Token (ParkedView C) (OpenView C)) : Type 0 where
+  pub holds : is_holder (holder desk) grant ≡ false
+  pub opens : may_open (holder desk) (waiting desk) grant ≡ false
+
+-- only there a session waits
+abbrev pub WaitsBlocked : {C : Type 0} → (waits : Bool) → ℕ → Token (ParkedView C) (OpenView C) → Type 0
+WaitsBlocked true grant desk = IsBlocked grant desk
+WaitsBlocked false grant desk = Unit {0}
 
 -- a capture filled the register of the virtual TAP and opened its scan, and the grant holds the desk
 pub record Opened {C : Type 0} (layout : LayoutShape) (grant : ℕ) (waits : List ℕ) (old new : VTapState) (desk : Token (ParkedView C) (OpenView C)) (before after : Option ChainState) : Type 0 where

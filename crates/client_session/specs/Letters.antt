@@ -43,6 +43,7 @@ pub record UsesFirst (old new : Progress) : Type 0 where
   pub lines : KeepsLines old new
   pub unused : unused_of new.input ≡ drop 1 (unused_of old.input)
   pub used : new.used ≡ old.used + 1
+  pub taken : new.taken ≡ old.taken
   pub acts : acts_of new.input ≡ acts_of old.input
   pub said : new.said ≡ old.said
   pub pending : new.pending ≡ old.pending
@@ -53,6 +54,7 @@ pub record SaysTdo (old new : Progress) : Type 0 where
   pub lines : KeepsLines old new
   pub unused : unused_of new.input ≡ unused_of old.input
   pub used : new.used ≡ old.used
+  pub taken : new.taken ≡ old.taken
   pub acts : acts_of new.input ≡ acts_of old.input
   pub reply : reply_of new ≡ reply_of old ++ tdo_digit old.tap.view.tdo ∷ []
 
@@ -61,6 +63,7 @@ pub record TakesLetters (piece : List ℕ) (old new : Progress) : Type 0 where
   pub lines : KeepsLines old new
   pub unused : unused_of new.input ≡ piece
   pub used : new.used ≡ old.used
+  pub taken : new.taken ≡ old.taken + length piece
   pub acts : acts_of new.input ≡ []
   pub reply : reply_of new ≡ []
 

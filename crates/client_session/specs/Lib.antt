@@ -14,3 +14,4 @@ pub mod Calls
 pub mod Edges
 pub mod Messaging
 pub mod Letters
+pub mod Ends

@@ -139,9 +139,13 @@ stand_after Stop.Done gone = Stand.Going
 stand_after Stop.Waits gone = if gone then Stand.Leaving else Stand.Waits
 stand_after (Stop.Ended end) gone = Stand.Free
 
--- how many bytes the session wants next, as it shows it
+-- how many bytes of the session were taken, used or not, as it shows it
+abbrev pub view_taken : SessionView → ℕ
+view_taken view = view.used + length view.unused
+
+-- how many bytes it wants next
 abbrev pub view_wants : SessionView → ℕ
-view_wants view = min (wanted_by view.protocol view.vector view.unused) (most_bytes - (view.used + length view.unused))
+view_wants view = min (wanted_by view.protocol view.vector view.unused) (most_bytes - view_taken view)
 
 -- the session waits for the chain
 abbrev pub is_in_line : Stand → Bool

@@ -1,16 +1,19 @@
 // The calls of a session, on its progress: its bytes are used, or its wait is over, and it goes on to where the call stops.
-ghost use Rattle.std.specs.Prelude.{◌≡◌, ◌≤◌, ◌<◌, ◌+◌, ◌^◌, ℕ, List, Bool, true, false, [], is_some, length, IfOk, IfErr};
+ghost use Rattle.std.specs.Prelude.{◌≡◌, ◌≤◌, ◌<◌, ◌+◌, ◌++◌, ◌^◌, ℕ, List, true, false, [], is_some, length, IfOk, IfErr};
 ghost use Rattle.base_types.specs.Counts.{HasCause};
 ghost use Rattle.base_types.specs.Tellings.{Told};
 ghost use Rattle.scan_share.specs.Scans.{IsWhole};
 ghost use Rattle.chain_token.specs.Tokens.{holder, waiting};
 ghost use Rattle.chain_token.specs.Waiting.{is_among, may_open};
 ghost use Rattle.virtual_tap.specs.Taps.{IsOfLayout};
+ghost use Rattle.client_session.specs.declared.halt.Halt.TheVariants.{Rests};
 ghost use Rattle.client_session.specs.Turns.{Turn};
 ghost use Rattle.client_session.specs.Sessions.{DeskView, is_in_line, stand_after, wanted_by};
+ghost use Rattle.client_session.specs.declared.Stand.{Stand};
 ghost use Rattle.client_session.specs.Stores.{AwaitsBytes, AwaitsCapture, KeepsProgress, StandsSo, protocol_of, unused_of, view_of};
-ghost use Rattle.client_session.specs.Desks.{Attends, IsDesk, IsSound, KeepsOthers, cable_of, cable_then};
-ghost use Rattle.client_session.specs.Calls.{ComesTo, HaltsAt, HaltsWell, HasReplied, KeepsSettings, MayGoOn, ShowsFed, ShowsSeat, StopsThere, is_waiting};
+ghost use Rattle.client_session.specs.Desks.{Attends, IsDesk, IsSound, KeepsOthers, WaitsBlocked, cable_of, cable_then};
+ghost use Rattle.client_session.specs.Ends.{HaltsBy, StopsBy, bytes_end};
+ghost use Rattle.client_session.specs.Calls.{ComesTo, HaltsAt, HaltsWell, HasReplied, KeepsSettings, MayGoOn, ShowsFed, ShowsSeat, StopsThere, TakesOn, is_waiting};
 
 use crate::Stop;
 use crate::desk::Desk;
@@ -46,10 +49,13 @@ impl Progress {
         requires few { self.old.taken + length piece.now ≤ 2 ^ 62 }
         ensures keeps { KeepsProgress self.new }
         ensures same { KeepsSettings self.old self.new }
+        ensures taken { self.new.taken ≡ self.old.taken + length piece.now }
         ensures fit { IfOk result (λ pair. MayGoOn self.new) }
         ensures halts { IfOk result (λ pair. HaltsWell pair.0 self.new) }
+        ensures ends { IfOk result (λ pair. HaltsBy (bytes_end (protocol_of self.old.input) self.old.vector self.old.used (unused_of self.old.input ++ piece.now)) pair.0) }
         ensures desk { IfOk result (λ pair. IsDesk layout.now grant self.new.tap.view pair.1) }
         ensures line { IfOk result (λ pair. is_among grant (waiting pair.1) ≡ is_waiting pair.0) }
+        ensures blocked { IfOk result (λ pair. WaitsBlocked (is_waiting pair.0) grant pair.1) }
         ensures others { IfOk result (λ pair. KeepsOthers grant desk pair.1) }
         ensures whole { IfOk result (λ pair. Told (C.chain (cable_of pair.1.side)) (IsWhole layout.now)) }
         ensures mark { C.mark (cable_then result) ≡ C.mark (cable_of desk.side) }
@@ -87,10 +93,14 @@ impl Progress {
         requires first { may_open (holder desk) (waiting desk) grant ≡ true }
         ensures keeps { KeepsProgress self.new }
         ensures same { KeepsSettings self.old self.new }
+        ensures taken { self.new.taken ≡ self.old.taken }
         ensures fit { IfOk result (λ pair. MayGoOn self.new) }
         ensures halts { IfOk result (λ pair. HaltsWell pair.0 self.new) }
+        ensures ends { IfOk result (λ pair. HaltsBy (bytes_end (protocol_of self.old.input) self.old.vector self.old.used (unused_of self.old.input)) pair.0) }
+        ensures unused { IfOk result (λ pair. pair.0 ≡ Rests → unused_of self.new.input ≡ []) }
         ensures desk { IfOk result (λ pair. IsDesk layout.now grant self.new.tap.view pair.1) }
         ensures line { IfOk result (λ pair. is_among grant (waiting pair.1) ≡ is_waiting pair.0) }
+        ensures blocked { IfOk result (λ pair. WaitsBlocked (is_waiting pair.0) grant pair.1) }
         ensures others { IfOk result (λ pair. KeepsOthers grant desk pair.1) }
         ensures whole { IfOk result (λ pair. Told (C.chain (cable_of pair.1.side)) (IsWhole layout.now)) }
         ensures mark { C.mark (cable_then result) ≡ C.mark (cable_of desk.side) }
@@ -135,10 +145,13 @@ impl Progress {
         requires few { self.old.taken + length piece.now ≤ 2 ^ 62 }
         ensures keeps { KeepsProgress self.new }
         ensures same { KeepsSettings self.old self.new }
+        ensures taken { IfOk result (λ pair. TakesOn pair.0 (self.old.taken + length piece.now) self.new.taken) }
         ensures there { IfOk result (λ pair. is_some self.new.tap.view.register ≡ true) }
         ensures stands { IfOk result (λ pair. StandsSo (stand_after pair.0 false) self.new) }
+        ensures stops { IfOk result (λ pair. StopsBy (bytes_end (protocol_of self.old.input) self.old.vector self.old.used (unused_of self.old.input ++ piece.now)) false (self.old.used + length (unused_of self.old.input) + length piece.now) pair.0) }
         ensures desk { IfOk result (λ pair. IsDesk layout.now grant self.new.tap.view pair.1) }
         ensures line { IfOk result (λ pair. is_among grant (waiting pair.1) ≡ is_in_line (stand_after pair.0 false)) }
+        ensures blocked { IfOk result (λ pair. WaitsBlocked (is_in_line (stand_after pair.0 false)) grant pair.1) }
         ensures others { IfOk result (λ pair. KeepsOthers grant desk pair.1) }
         ensures whole { IfOk result (λ pair. Told (C.chain (cable_of pair.1.side)) (IsWhole layout.now)) }
         ensures mark { C.mark (cable_then result) ≡ C.mark (cable_of desk.side) }
@@ -180,8 +193,11 @@ impl Progress {
         ensures same { KeepsSettings self.old self.new }
         ensures there { IfOk result (λ pair. is_some self.new.tap.view.register ≡ true) }
         ensures stands { IfOk result (λ pair. StandsSo (stand_after pair.0 gone) self.new) }
+        ensures here { IfOk result (λ pair. stand_after pair.0 gone ≡ Stand.Going → gone ≡ false) }
+        ensures stops { IfOk result (λ pair. StopsBy (bytes_end (protocol_of self.old.input) self.old.vector self.old.used (unused_of self.old.input)) gone (self.old.used + length (unused_of self.old.input)) pair.0) }
         ensures desk { IfOk result (λ pair. IsDesk layout.now grant self.new.tap.view pair.1) }
         ensures line { IfOk result (λ pair. is_among grant (waiting pair.1) ≡ is_in_line (stand_after pair.0 gone)) }
+        ensures blocked { IfOk result (λ pair. WaitsBlocked (is_in_line (stand_after pair.0 gone)) grant pair.1) }
         ensures others { IfOk result (λ pair. KeepsOthers grant desk pair.1) }
         ensures whole { IfOk result (λ pair. Told (C.chain (cable_of pair.1.side)) (IsWhole layout.now)) }
         ensures mark { C.mark (cable_then result) ≡ C.mark (cable_of desk.side) }

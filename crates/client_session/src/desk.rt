@@ -1,10 +1,10 @@
 // What a session does at the desk with the shared chain.
-ghost use Rattle.std.specs.Prelude.{◌≡◌, ◌<◌, IfOk, Some, true, false, length, is_some};
+ghost use Rattle.std.specs.Prelude.{◌≡◌, ◌<◌, IfOk, true, false, length, is_some};
 ghost use Rattle.base_types.specs.Counts.{HasCause};
 ghost use Rattle.base_types.specs.Tellings.{Told};
 ghost use Rattle.tap_states.specs.declared.Tap.TheVariants.{TestLogicReset};
 ghost use Rattle.scan_share.specs.Scans.{IsWhole};
-ghost use Rattle.chain_token.specs.Tokens.{holder, waiting};
+ghost use Rattle.chain_token.specs.Tokens.{waiting};
 ghost use Rattle.virtual_tap.specs.Taps.{IsOfLayout};
 ghost use Rattle.virtual_tap.specs.Views.{at_capture};
 ghost use Rattle.client_session.specs.Turns.{Turn};
@@ -36,7 +36,7 @@ pub fn leave<C: Cable>(desk: Desk<C>) -> C
     }
 }
 
-/// What always holds of a layout and a grant of it.
+/// What always holds of a layout and a grant of it, for a caller's proofs; it does nothing.
 pub fn sound(layout: &Layout, grant: usize)
     requires { grant < length layout.now.grants }
     ensures { IsSound layout.now grant }

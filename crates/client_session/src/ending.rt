@@ -1,5 +1,5 @@
 // Where a call of a session stops.
-ghost use Rattle.std.specs.Prelude.{◌≡◌, ◌≤◌, ◌<◌, ◌^◌, ℕ, List, Bool, true, false, [], is_some, IfOk, IfErr};
+ghost use Rattle.std.specs.Prelude.{◌≡◌, ◌<◌, ◌^◌, ℕ, List, true, false, is_some, IfOk};
 ghost use Rattle.base_types.specs.Counts.{HasCause};
 ghost use Rattle.base_types.specs.Tellings.{Told};
 ghost use Rattle.scan_share.specs.Scans.{IsWhole};
@@ -12,9 +12,9 @@ ghost use Rattle.client_session.specs.declared.Stop.{Stop};
 ghost use Rattle.client_session.specs.Seats.{advanced};
 ghost use Rattle.client_session.specs.Turns.{Turn};
 ghost use Rattle.client_session.specs.Sessions.{DeskView, is_in_line, stand_after};
-ghost use Rattle.client_session.specs.Stores.{KeepsProgress, StandsSo, reply_of, view_of};
-ghost use Rattle.client_session.specs.Desks.{Attends, IsDesk, IsSound, KeepsOthers, cable_after, cable_of, cable_then};
-ghost use Rattle.client_session.specs.Calls.{ComesTo, EndsSo, HaltsAt, HaltsWell, HasLeft, HasReplied, KeepsSettings, MayGoOn, RestsThere, StopsThere, ended_by, is_waiting};
+ghost use Rattle.client_session.specs.Stores.{KeepsProgress, StandsSo, reply_of, unused_of, view_of};
+ghost use Rattle.client_session.specs.Desks.{Attends, IsDesk, IsSound, KeepsOthers, WaitsBlocked, cable_after, cable_of, cable_then};
+ghost use Rattle.client_session.specs.Calls.{EndsSo, HaltsAt, HaltsWell, HasLeft, KeepsSettings, MayGoOn, RestsThere, StopsThere, TakesOn, ended_by, halt_stop, is_waiting, rest_end};
 
 use crate::desk::{Desk, close};
 use crate::halt::Halt;
@@ -29,6 +29,7 @@ impl Progress {
     fn end_at_rest(&self, gone: bool) -> Option<End>
         requires keeps { KeepsProgress self.now }
         ensures due { (grant : ℕ) (given : List ℕ) (turn : Turn) → turn.seat.gone ≡ gone → RestsThere self.now grant given turn → advanced turn.seat ≡ ended_by result turn.seat }
+        ensures value { result ≡ rest_end gone self.now.used (unused_of self.now.input) }
         ensures here { result ≡ None → gone ≡ false }
         ensures few { result ≡ None → self.now.taken < 2 ^ 62 }
     {
@@ -102,13 +103,18 @@ impl Progress {
         requires halts { HaltsWell halt self.old }
         requires desk { IsDesk layout.now grant self.old.tap.view desk }
         requires line { is_among grant (waiting desk) ≡ is_waiting halt }
+        requires blocked { WaitsBlocked (is_waiting halt) grant desk }
         requires whole { Told (C.chain (cable_of desk.side)) (IsWhole layout.now) }
         ensures keeps { KeepsProgress self.new }
         ensures same { KeepsSettings self.old self.new }
         ensures there { IfOk result (λ pair. is_some self.new.tap.view.register ≡ true) }
         ensures stands { IfOk result (λ pair. StandsSo (stand_after pair.0 gone) self.new) }
+        ensures here { IfOk result (λ pair. stand_after pair.0 gone ≡ Stand.Going → gone ≡ false) }
         ensures desk { IfOk result (λ pair. IsDesk layout.now grant self.new.tap.view pair.1) }
+        ensures stops { IfOk result (λ pair. pair.0 ≡ halt_stop halt gone self.old.used (unused_of self.old.input)) }
+        ensures taken { IfOk result (λ pair. TakesOn pair.0 self.old.taken self.new.taken) }
         ensures line { IfOk result (λ pair. is_among grant (waiting pair.1) ≡ is_in_line (stand_after pair.0 gone)) }
+        ensures blocked { IfOk result (λ pair. WaitsBlocked (is_in_line (stand_after pair.0 gone)) grant pair.1) }
         ensures others { IfOk result (λ pair. KeepsOthers grant desk pair.1) }
         ensures whole { IfOk result (λ pair. Told (C.chain (cable_of pair.1.side)) (IsWhole layout.now)) }
         ensures mark { C.mark (cable_then result) ≡ C.mark (cable_of desk.side) }

@@ -1,5 +1,5 @@
 // Letters of remote_bitbang.
-ghost use Rattle.std.specs.Prelude.{◌≡◌, ◌≤◌, ◌<◌, ◌+◌, ◌^◌, ℕ, List, true, false, [], length, slice_get, IfOk, IfErr, IfSome, IfNone};
+ghost use Rattle.std.specs.Prelude.{◌≡◌, ◌≤◌, ◌<◌, ◌+◌, ◌++◌, ◌^◌, ℕ, List, true, false, [], length, slice_get, IfOk, IfErr, IfSome, IfNone};
 ghost use Rattle.base_types.specs.Counts.{HasCause};
 ghost use Rattle.base_types.specs.Tellings.{Told};
 ghost use Rattle.bitbang_frame.specs.declared.Letter.TheVariants as letters;
@@ -8,12 +8,14 @@ ghost use Rattle.scan_share.specs.Scans.{IsWhole};
 ghost use Rattle.chain_token.specs.Tokens.{holder, waiting};
 ghost use Rattle.chain_token.specs.Waiting.{is_among, may_open};
 ghost use Rattle.virtual_tap.specs.Taps.{IsOfLayout};
+ghost use Rattle.client_session.specs.declared.halt.Halt.TheVariants.{Rests};
 ghost use Rattle.client_session.specs.Acts.{letter_acts};
 ghost use Rattle.client_session.specs.Turns.{LayoutShape, Turn};
 ghost use Rattle.client_session.specs.Sessions.{DeskView, wanted_by};
 ghost use Rattle.client_session.specs.Stores.{AwaitsBytes, AwaitsCapture, KeepsProgress, acts_of, protocol_of, unused_of};
-ghost use Rattle.client_session.specs.Desks.{Attends, IsDesk, IsSound, KeepsOthers, cable_of, cable_then};
+ghost use Rattle.client_session.specs.Desks.{Attends, IsDesk, IsSound, KeepsOthers, WaitsBlocked, cable_of, cable_then};
 ghost use Rattle.client_session.specs.Calls.{ComesTo, HaltsAt, HaltsWell, HasReplied, KeepsSettings, LinesTo, LinesWell, MayGoOn, ShowsFed, ShowsSeat, is_waiting};
+ghost use Rattle.client_session.specs.Ends.{HaltsBy, bytes_end, letters_end};
 ghost use Rattle.client_session.specs.Letters.{ComesQuietly, IsNext, SaysTdo, TakesLetters, UsesFirst, acts_asked, is_trst};
 
 use crate::End;
@@ -81,6 +83,7 @@ impl Progress {
         ensures next { IfOk result (λ act. IsNext act self.now) }
         ensures halts { IfErr result (λ halt. HaltsWell halt self.now) }
         ensures waits { IfErr result (λ halt. is_waiting halt ≡ false) }
+        ensures ends { IfErr result (HaltsBy (letters_end self.now.used (unused_of self.now.input))) }
         ensures went { IfErr result (λ halt. (layout : LayoutShape) (grant : ℕ) (given : List ℕ) (turn : Turn) → ShowsSeat self.now grant given turn
             → ComesQuietly layout grant (HaltsAt halt layout self.now grant given) turn) }
     {
@@ -165,6 +168,7 @@ impl Progress {
         requires next { IsNext act self.old }
         ensures keeps { KeepsProgress self.new }
         ensures same { KeepsSettings self.old self.new }
+        ensures taken { self.new.taken ≡ self.old.taken }
         ensures fit { IfOk result (λ pair. MayGoOn self.new) }
         ensures desk { IfOk result (λ pair. IsDesk layout.now grant self.new.tap.view pair.1) }
         ensures others { IfOk result (λ pair. KeepsOthers grant desk pair.1) }
@@ -174,7 +178,9 @@ impl Progress {
         ensures cause { HasCause (C.fault_count (cable_of desk.side)) (C.fault_count (cable_then result)) result }
         ensures waits { IfOk result (λ pair. LinesWell pair.0 self.new) }
         ensures line { IfOk result (λ pair. is_among grant (waiting pair.1) ≡ pair.0) }
+        ensures blocked { IfOk result (λ pair. WaitsBlocked pair.0 grant pair.1) }
         ensures less { length (unused_of self.new.input) < length (unused_of self.old.input) }
+        ensures ends { IfOk result (λ pair. letters_end self.new.used (unused_of self.new.input) ≡ letters_end self.old.used (unused_of self.old.input)) }
         ensures went { IfOk result (λ pair. (given : List ℕ) (base_desk : DeskView) (base turn : Turn) → IsWhole layout.now base_desk.chain
             → Attends layout.now grant base_desk base (ShowsSeat self.old grant given) desk (C.chain (cable_of desk.side)) turn
             → ComesTo layout.now grant (Attends layout.now grant base_desk base (LinesTo pair.0 layout.now self.new grant given) pair.1 (C.chain (cable_of pair.1.side))) turn) }
@@ -220,6 +226,7 @@ impl Progress {
         requires none { acts_of self.old.input ≡ [] }
         ensures keeps { KeepsProgress self.new }
         ensures same { KeepsSettings self.old self.new }
+        ensures taken { self.new.taken ≡ self.old.taken }
         ensures fit { IfOk result (λ pair. MayGoOn self.new) }
         ensures desk { IfOk result (λ pair. IsDesk layout.now grant self.new.tap.view pair.1) }
         ensures others { IfOk result (λ pair. KeepsOthers grant desk pair.1) }
@@ -228,7 +235,9 @@ impl Progress {
         ensures trst { C.trst (cable_then result) ≡ C.trst (cable_of desk.side) }
         ensures cause { HasCause (C.fault_count (cable_of desk.side)) (C.fault_count (cable_then result)) result }
         ensures halts { IfOk result (λ pair. HaltsWell pair.0 self.new) }
+        ensures ends { IfOk result (λ pair. HaltsBy (letters_end self.old.used (unused_of self.old.input)) pair.0) }
         ensures line { IfOk result (λ pair. is_among grant (waiting pair.1) ≡ is_waiting pair.0) }
+        ensures blocked { IfOk result (λ pair. WaitsBlocked (is_waiting pair.0) grant pair.1) }
         ensures went { IfOk result (λ pair. (given : List ℕ) (base_desk : DeskView) (base turn : Turn) → IsWhole layout.now base_desk.chain
             → Attends layout.now grant base_desk base (ShowsSeat self.old grant given) desk (C.chain (cable_of desk.side)) turn
             → ComesTo layout.now grant (Attends layout.now grant base_desk base (HaltsAt pair.0 layout.now self.new grant given) pair.1 (C.chain (cable_of pair.1.side))) turn) }
@@ -277,6 +286,7 @@ impl Progress {
         requires few { self.old.taken + length piece.now ≤ 2 ^ 62 }
         ensures keeps { KeepsProgress self.new }
         ensures same { KeepsSettings self.old self.new }
+        ensures taken { self.new.taken ≡ self.old.taken + length piece.now }
         ensures fit { IfOk result (λ pair. MayGoOn self.new) }
         ensures desk { IfOk result (λ pair. IsDesk layout.now grant self.new.tap.view pair.1) }
         ensures others { IfOk result (λ pair. KeepsOthers grant desk pair.1) }
@@ -285,7 +295,9 @@ impl Progress {
         ensures trst { C.trst (cable_then result) ≡ C.trst (cable_of desk.side) }
         ensures cause { HasCause (C.fault_count (cable_of desk.side)) (C.fault_count (cable_then result)) result }
         ensures halts { IfOk result (λ pair. HaltsWell pair.0 self.new) }
+        ensures ends { IfOk result (λ pair. HaltsBy (bytes_end Bitbang self.old.vector self.old.used (unused_of self.old.input ++ piece.now)) pair.0) }
         ensures line { IfOk result (λ pair. is_among grant (waiting pair.1) ≡ is_waiting pair.0) }
+        ensures blocked { IfOk result (λ pair. WaitsBlocked (is_waiting pair.0) grant pair.1) }
         ensures went { IfOk result (λ pair. (given : List ℕ) (base_desk : DeskView) (base turn : Turn) → IsWhole layout.now base_desk.chain
             → Attends layout.now grant base_desk base (ShowsFed self.old piece.now grant given) desk (C.chain (cable_of desk.side)) turn
             → ComesTo layout.now grant (Attends layout.now grant base_desk base (HaltsAt pair.0 layout.now self.new grant given) pair.1 (C.chain (cable_of pair.1.side))) turn) }
@@ -320,6 +332,7 @@ impl Progress {
         requires first { may_open (holder desk) (waiting desk) grant ≡ true }
         ensures keeps { KeepsProgress self.new }
         ensures same { KeepsSettings self.old self.new }
+        ensures taken { self.new.taken ≡ self.old.taken }
         ensures fit { IfOk result (λ pair. MayGoOn self.new) }
         ensures desk { IfOk result (λ pair. IsDesk layout.now grant self.new.tap.view pair.1) }
         ensures others { IfOk result (λ pair. KeepsOthers grant desk pair.1) }
@@ -328,7 +341,10 @@ impl Progress {
         ensures trst { C.trst (cable_then result) ≡ C.trst (cable_of desk.side) }
         ensures cause { HasCause (C.fault_count (cable_of desk.side)) (C.fault_count (cable_then result)) result }
         ensures halts { IfOk result (λ pair. HaltsWell pair.0 self.new) }
+        ensures ends { IfOk result (λ pair. HaltsBy (bytes_end Bitbang self.old.vector self.old.used (unused_of self.old.input)) pair.0) }
+        ensures unused { IfOk result (λ pair. pair.0 ≡ Rests → unused_of self.new.input ≡ []) }
         ensures line { IfOk result (λ pair. is_among grant (waiting pair.1) ≡ is_waiting pair.0) }
+        ensures blocked { IfOk result (λ pair. WaitsBlocked (is_waiting pair.0) grant pair.1) }
         ensures went { IfOk result (λ pair. (given : List ℕ) (base_desk : DeskView) (base turn : Turn) → IsWhole layout.now base_desk.chain
             → Attends layout.now grant base_desk base (ShowsSeat self.old grant given) desk (C.chain (cable_of desk.side)) turn
             → ComesTo layout.now grant (Attends layout.now grant base_desk base (HaltsAt pair.0 layout.now self.new grant given) pair.1 (C.chain (cable_of pair.1.side))) turn) }

@@ -1,7 +1,7 @@
 //! The sessions of a grant: what a client's bytes ask of its private chain, what it is replied, and where it has to wait for the shared one.
 #![tactic(auto)]
 
-ghost use Rattle.std.specs.Prelude.{◌≡◌, ℕ, List, [], ◌∷◌, ◌++◌};
+ghost use Rattle.std.specs.Prelude.{◌≡◌, ℕ, List, ◌∷◌, ◌++◌};
 ghost use Rattle.client_session.specs.Seats.{Seat, finished, IsFinished};
 ghost use Rattle.client_session.specs.Private.{Event, after_events};
 ghost use Rattle.client_session.specs.Private.Event.{Took};
@@ -20,7 +20,7 @@ mod progress;
 mod session;
 mod shift;
 
-pub use desk::{Desk, leave};
+pub use desk::{Desk, leave, sound};
 pub use session::Session;
 
 /// How a session ended. Bytes are counted from 0, from the first of the session.

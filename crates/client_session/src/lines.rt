@@ -11,8 +11,8 @@ ghost use Rattle.virtual_tap.specs.Views.{at_capture};
 ghost use Rattle.client_session.specs.Acts.Act.{SetLines, SetTrst};
 ghost use Rattle.client_session.specs.Turns.{Turn};
 ghost use Rattle.client_session.specs.Sessions.{DeskView};
-ghost use Rattle.client_session.specs.Stores.{AwaitsCapture, AwaitsChain, KeepsProgress, acts_of, edge_left, protocol_of};
-ghost use Rattle.client_session.specs.Desks.{Attends, IsDesk, IsSound, KeepsOthers, cable_after, cable_of, cable_then};
+ghost use Rattle.client_session.specs.Stores.{AwaitsCapture, AwaitsChain, KeepsProgress, acts_of, protocol_of};
+ghost use Rattle.client_session.specs.Desks.{Attends, IsDesk, IsSound, KeepsOthers, WaitsBlocked, cable_after, cable_of, cable_then};
 ghost use Rattle.client_session.specs.Calls.{ComesTo, IsToAct, KeepsLetters, KeepsSettings, LinesTo, LinesWell, MayGoOn, ShowsSeat};
 ghost use Rattle.client_session.specs.Edges.{EdgesTo, MakesEdge, SameLetters};
 
@@ -77,6 +77,7 @@ fn rise_at_capture<C: Cable>(
     ensures waits { IfOk result (λ pair. pair.0 ≡ true → tap.new ≡ tap.old) }
     ensures first { may_open (holder desk) (waiting desk) grant ≡ true → IfOk result (λ pair. pair.0 ≡ false) }
     ensures line { IfOk result (λ pair. is_among grant (waiting pair.1) ≡ pair.0) }
+    ensures blocked { IfOk result (λ pair. WaitsBlocked pair.0 grant pair.1) }
     ensures scans { IfOk result (λ pair. ScansAt (not pair.0) tap.new.view) }
     ensures there { IfOk result (λ pair. is_some tap.new.view.register ≡ true) }
     ensures desk { IfOk result (λ pair. IsDesk layout.now grant tap.new.view pair.1) }
@@ -155,6 +156,7 @@ fn make_edge<C: Cable>(
         → EdgesTo pair.0 layout.now grant tap.new base_desk base pair.1 (C.chain (cable_of pair.1.side)) turn) }
     ensures waits { IfOk result (λ pair. pair.0 ≡ true → (tck ≡ true) × (at_capture tap.old.view ≡ true) × (tap.new ≡ tap.old)) }
     ensures line { IfOk result (λ pair. is_among grant (waiting pair.1) ≡ pair.0) }
+    ensures blocked { IfOk result (λ pair. WaitsBlocked pair.0 grant pair.1) }
     ensures scans { IfOk result (λ pair. ScansAt (not pair.0 && tck) tap.new.view) }
     ensures there { IfOk result (λ pair. is_some tap.new.view.register ≡ true) }
     ensures desk { IfOk result (λ pair. IsDesk layout.now grant tap.new.view pair.1) }
@@ -207,6 +209,7 @@ impl Progress {
             → ComesTo layout.now grant (Attends layout.now grant base_desk base (LinesTo pair.0 layout.now self.new grant given) pair.1 (C.chain (cable_of pair.1.side))) turn) }
         ensures waits { IfOk result (λ pair. LinesWell pair.0 self.new) }
         ensures line { IfOk result (λ pair. is_among grant (waiting pair.1) ≡ pair.0) }
+        ensures blocked { IfOk result (λ pair. WaitsBlocked pair.0 grant pair.1) }
         ensures keeps { KeepsProgress self.new }
         ensures same { KeepsSettings self.old self.new }
         ensures letters { KeepsLetters self.old self.new }

@@ -1,5 +1,5 @@
 // Messages of Xilinx Virtual Cable 1.0: how a session takes their bytes, and uses them.
-ghost use Rattle.std.specs.Prelude.{◌≡◌, ◌≤◌, ◌+◌, ◌++◌, ◌^◌, ℕ, List, true, false, [], length, is_some, IfOk, IfErr};
+ghost use Rattle.std.specs.Prelude.{◌≡◌, ◌≤◌, ◌+◌, ◌++◌, ◌^◌, ℕ, List, true, false, None, [], length, is_some, IfOk, IfErr};
 ghost use Rattle.base_types.specs.Counts.{HasCause};
 ghost use Rattle.base_types.specs.Tellings.{Told};
 ghost use Rattle.grant_table.specs.declared.Protocol.TheVariants.{Xvc};
@@ -12,13 +12,15 @@ ghost use Rattle.xvc_frame.specs.Frames.{IsOpen, Tells};
 ghost use Rattle.xvc_frame.specs.declared.FrameStep.TheVariants.{Whole, Refused};
 ghost use Rattle.xvc_frame.specs.declared.Msg.TheVariants.{GetInfo, SetTck, Shift};
 ghost use Rattle.virtual_tap.specs.Taps.{IsOfLayout};
+ghost use Rattle.client_session.specs.declared.End.TheVariants as ends;
 ghost use Rattle.client_session.specs.declared.halt.Halt.TheVariants.{Rests};
 ghost use Rattle.client_session.specs.declared.input.Work.TheVariants.{Taking, Shifting};
 ghost use Rattle.client_session.specs.Turns.{Turn};
 ghost use Rattle.client_session.specs.Sessions.{DeskView, wanted_by};
 ghost use Rattle.client_session.specs.Stores.{AwaitsBytes, AwaitsCapture, IsBetween, KeepsProgress, WorksAt, held_unused, protocol_of, unused_of};
-ghost use Rattle.client_session.specs.Desks.{Attends, IsDesk, IsSound, KeepsOthers, StopsAt, cable_of, cable_then};
+ghost use Rattle.client_session.specs.Desks.{Attends, IsDesk, IsSound, KeepsOthers, StopsAt, WaitsBlocked, cable_of, cable_then};
 ghost use Rattle.client_session.specs.Calls.{ComesTo, EndsSo, HaltsAt, HaltsWell, HasReplied, KeepsSettings, MayGoOn, RestsThere, ShowsFed, ShowsSeat, is_waiting};
+ghost use Rattle.client_session.specs.Ends.{HaltsBy, bytes_end};
 ghost use Rattle.client_session.specs.Messaging.{HasStopped, HasTaken, KeepsLines, QuietlyTo, ShowsBytes, TakesBytes, UsesBytes, frame_of, work_of};
 
 use crate::End;
@@ -126,8 +128,10 @@ impl Progress {
     // The bytes that were taken are refused at this place among them: how the session ends.
     fn refuse(&mut self, at: usize, cause: u8) -> End
         requires taken { HasTaken (Refused at cause) self.old }
+        ensures place { result ≡ ends.Refused (self.old.used + at) cause }
         ensures keeps { KeepsProgress self.new }
         ensures lines { KeepsLines self.old self.new }
+        ensures taken { self.new.taken ≡ self.old.taken }
         ensures went { (grant : ℕ) (given : List ℕ) (turn : Turn) → ShowsSeat self.old grant given turn → EndsSo result self.new grant given turn }
     {
         let place = self.used + at as u64;
@@ -140,6 +144,7 @@ impl Progress {
         requires taken { HasTaken (Whole GetInfo) self.old }
         ensures keeps { KeepsProgress self.new }
         ensures lines { KeepsLines self.old self.new }
+        ensures taken { self.new.taken ≡ self.old.taken }
         ensures halts { HaltsWell Rests self.new }
         ensures went { (layout : LayoutShape) (grant : ℕ) (given : List ℕ) (turn : Turn) → ShowsSeat self.old grant given turn → QuietlyTo layout grant (RestsThere self.new grant given) turn }
     {
@@ -157,6 +162,7 @@ impl Progress {
         requires taken { HasTaken (Whole (SetTck period)) self.old }
         ensures keeps { KeepsProgress self.new }
         ensures lines { KeepsLines self.old self.new }
+        ensures taken { self.new.taken ≡ self.old.taken }
         ensures halts { HaltsWell Rests self.new }
         ensures went { (layout : LayoutShape) (grant : ℕ) (given : List ℕ) (turn : Turn) → ShowsSeat self.old grant given turn → QuietlyTo layout grant (RestsThere self.new grant given) turn }
     {
@@ -169,6 +175,7 @@ impl Progress {
         requires taken { HasTaken (Whole (Shift cycles)) self.old }
         ensures keeps { KeepsProgress self.new }
         ensures lines { KeepsLines self.old self.new }
+        ensures taken { self.new.taken ≡ self.old.taken }
         ensures work { work_of self.new.input ≡ Shifting cycles 0 }
         ensures went { (layout : LayoutShape) (grant : ℕ) (given : List ℕ) (turn : Turn) → ShowsSeat self.old grant given turn → QuietlyTo layout grant (ShowsSeat self.new grant given) turn }
     {
@@ -185,8 +192,11 @@ impl Progress {
         requires fit { MayGoOn self.old }
         ensures keeps { KeepsProgress self.new }
         ensures lines { KeepsLines self.old self.new }
+        ensures taken { self.new.taken ≡ self.old.taken }
         ensures halts { HaltsWell result self.new }
         ensures waits { is_waiting result ≡ is_some stop }
+        ensures ends { HaltsBy None result }
+        ensures unused { unused_of self.new.input ≡ [] }
         ensures went { (layout : LayoutShape) (grant : ℕ) (given : List ℕ) (turn : Turn) → ShowsBytes self.old given turn → StopsAt stop layout (frame_of self.old.input) self.old.tap cycles grant turn
             → QuietlyTo layout grant (HaltsAt result layout self.new grant given) turn }
     {
@@ -227,6 +237,7 @@ impl Progress {
         requires work { work_of self.old.input ≡ Shifting cycles 0 }
         ensures keeps { KeepsProgress self.new }
         ensures same { KeepsSettings self.old self.new }
+        ensures taken { self.new.taken ≡ self.old.taken }
         ensures fit { IfOk result (λ pair. MayGoOn self.new) }
         ensures desk { IfOk result (λ pair. IsDesk layout.now grant self.new.tap.view pair.1) }
         ensures others { IfOk result (λ pair. KeepsOthers grant desk pair.1) }
@@ -235,7 +246,9 @@ impl Progress {
         ensures trst { C.trst (cable_then result) ≡ C.trst (cable_of desk.side) }
         ensures cause { HasCause (C.fault_count (cable_of desk.side)) (C.fault_count (cable_then result)) result }
         ensures halts { IfOk result (λ pair. HaltsWell pair.0 self.new) }
+        ensures ends { IfOk result (λ pair. HaltsBy None pair.0) }
         ensures line { IfOk result (λ pair. is_among grant (waiting pair.1) ≡ is_waiting pair.0) }
+        ensures blocked { IfOk result (λ pair. WaitsBlocked (is_waiting pair.0) grant pair.1) }
         ensures went { IfOk result (λ pair. (given : List ℕ) (base_desk : DeskView) (base turn : Turn) → IsWhole layout.now base_desk.chain
             → Attends layout.now grant base_desk base (ShowsSeat self.old grant given) desk (C.chain (cable_of desk.side)) turn
             → ComesTo layout.now grant (Attends layout.now grant base_desk base (HaltsAt pair.0 layout.now self.new grant given) pair.1 (C.chain (cable_of pair.1.side))) turn) }
@@ -276,6 +289,7 @@ impl Progress {
         requires taken { HasTaken (Whole message) self.old }
         ensures keeps { KeepsProgress self.new }
         ensures same { KeepsSettings self.old self.new }
+        ensures taken { self.new.taken ≡ self.old.taken }
         ensures fit { IfOk result (λ pair. MayGoOn self.new) }
         ensures desk { IfOk result (λ pair. IsDesk layout.now grant self.new.tap.view pair.1) }
         ensures others { IfOk result (λ pair. KeepsOthers grant desk pair.1) }
@@ -284,7 +298,9 @@ impl Progress {
         ensures trst { C.trst (cable_then result) ≡ C.trst (cable_of desk.side) }
         ensures cause { HasCause (C.fault_count (cable_of desk.side)) (C.fault_count (cable_then result)) result }
         ensures halts { IfOk result (λ pair. HaltsWell pair.0 self.new) }
+        ensures ends { IfOk result (λ pair. HaltsBy None pair.0) }
         ensures line { IfOk result (λ pair. is_among grant (waiting pair.1) ≡ is_waiting pair.0) }
+        ensures blocked { IfOk result (λ pair. WaitsBlocked (is_waiting pair.0) grant pair.1) }
         ensures went { IfOk result (λ pair. (given : List ℕ) (base_desk : DeskView) (base turn : Turn) → IsWhole layout.now base_desk.chain
             → Attends layout.now grant base_desk base (ShowsSeat self.old grant given) desk (C.chain (cable_of desk.side)) turn
             → ComesTo layout.now grant (Attends layout.now grant base_desk base (HaltsAt pair.0 layout.now self.new grant given) pair.1 (C.chain (cable_of pair.1.side))) turn) }
@@ -335,6 +351,7 @@ impl Progress {
         requires few { self.old.taken + length piece.now ≤ 2 ^ 62 }
         ensures keeps { KeepsProgress self.new }
         ensures same { KeepsSettings self.old self.new }
+        ensures taken { self.new.taken ≡ self.old.taken + length piece.now }
         ensures fit { IfOk result (λ pair. MayGoOn self.new) }
         ensures desk { IfOk result (λ pair. IsDesk layout.now grant self.new.tap.view pair.1) }
         ensures others { IfOk result (λ pair. KeepsOthers grant desk pair.1) }
@@ -343,7 +360,9 @@ impl Progress {
         ensures trst { C.trst (cable_then result) ≡ C.trst (cable_of desk.side) }
         ensures cause { HasCause (C.fault_count (cable_of desk.side)) (C.fault_count (cable_then result)) result }
         ensures halts { IfOk result (λ pair. HaltsWell pair.0 self.new) }
+        ensures ends { IfOk result (λ pair. HaltsBy (bytes_end Xvc self.old.vector self.old.used (unused_of self.old.input ++ piece.now)) pair.0) }
         ensures line { IfOk result (λ pair. is_among grant (waiting pair.1) ≡ is_waiting pair.0) }
+        ensures blocked { IfOk result (λ pair. WaitsBlocked (is_waiting pair.0) grant pair.1) }
         ensures went { IfOk result (λ pair. (given : List ℕ) (base_desk : DeskView) (base turn : Turn) → IsWhole layout.now base_desk.chain
             → Attends layout.now grant base_desk base (ShowsFed self.old piece.now grant given) desk (C.chain (cable_of desk.side)) turn
             → ComesTo layout.now grant (Attends layout.now grant base_desk base (HaltsAt pair.0 layout.now self.new grant given) pair.1 (C.chain (cable_of pair.1.side))) turn) }
@@ -382,6 +401,7 @@ impl Progress {
         requires first { may_open (holder desk) (waiting desk) grant ≡ true }
         ensures keeps { KeepsProgress self.new }
         ensures same { KeepsSettings self.old self.new }
+        ensures taken { self.new.taken ≡ self.old.taken }
         ensures fit { IfOk result (λ pair. MayGoOn self.new) }
         ensures desk { IfOk result (λ pair. IsDesk layout.now grant self.new.tap.view pair.1) }
         ensures others { IfOk result (λ pair. KeepsOthers grant desk pair.1) }
@@ -390,7 +410,10 @@ impl Progress {
         ensures trst { C.trst (cable_then result) ≡ C.trst (cable_of desk.side) }
         ensures cause { HasCause (C.fault_count (cable_of desk.side)) (C.fault_count (cable_then result)) result }
         ensures halts { IfOk result (λ pair. HaltsWell pair.0 self.new) }
+        ensures ends { IfOk result (λ pair. HaltsBy (bytes_end Xvc self.old.vector self.old.used (unused_of self.old.input)) pair.0) }
+        ensures unused { IfOk result (λ pair. unused_of self.new.input ≡ []) }
         ensures line { IfOk result (λ pair. is_among grant (waiting pair.1) ≡ is_waiting pair.0) }
+        ensures blocked { IfOk result (λ pair. WaitsBlocked (is_waiting pair.0) grant pair.1) }
         ensures went { IfOk result (λ pair. (given : List ℕ) (base_desk : DeskView) (base turn : Turn) → IsWhole layout.now base_desk.chain
             → Attends layout.now grant base_desk base (ShowsSeat self.old grant given) desk (C.chain (cable_of desk.side)) turn
             → ComesTo layout.now grant (Attends layout.now grant base_desk base (HaltsAt pair.0 layout.now self.new grant given) pair.1 (C.chain (cable_of pair.1.side))) turn) }

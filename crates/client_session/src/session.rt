@@ -1,5 +1,5 @@
 // A session.
-ghost use Rattle.std.specs.Prelude.{◌≡◌, ◌≤◌, ◌<◌, ◌^◌, ℕ, List, Bool, [], true, false, length, drop, map, slice_get, Some, IfOk, IfErr, OnOk, OnErr};
+ghost use Rattle.std.specs.Prelude.{◌≡◌, ◌≢◌, ◌≤◌, ◌<◌, ◌+◌, ◌^◌, ℕ, List, Bool, [], true, false, length, drop, map, slice_get, Some, IfOk, IfErr, OnOk, OnErr};
 ghost use Rattle.base_types.specs.Counts.{HasCause};
 ghost use Rattle.base_types.specs.Tellings.{Told};
 ghost use Rattle.std.specs.Option.{option_map};
@@ -11,12 +11,14 @@ ghost use Rattle.scan_share.specs.Scans.{IsWhole, types_of};
 ghost use Rattle.chain_token.specs.Tokens.{holder, waiting};
 ghost use Rattle.chain_token.specs.Waiting.{is_among, may_open};
 ghost use Rattle.client_session.specs.declared.Stand.TheVariants.{Free, Going, Waits};
-ghost use Rattle.client_session.specs.Seats.{Seat};
+ghost use Rattle.client_session.specs.declared.Stop.TheVariants as stops;
+ghost use Rattle.client_session.specs.Seats.{Seat, gone_end};
 ghost use Rattle.client_session.specs.Private.{free_seat, opened, received};
 ghost use Rattle.client_session.specs.Turns.{Turn};
-ghost use Rattle.client_session.specs.Desks.{IsDesk, KeepsOthers, cable_of, cable_then};
-ghost use Rattle.client_session.specs.Calls.{CameOn, ServedBy};
-ghost use Rattle.client_session.specs.Sessions.{RepliedBefore, Shows, Steers, is_here, is_in_line, is_leaving, session_wants, stand_after, view_wants};
+ghost use Rattle.client_session.specs.Desks.{IsBlocked, IsDesk, KeepsOthers, cable_of, cable_then};
+ghost use Rattle.client_session.specs.Calls.{CameOn, ServedBy, TakesOn};
+ghost use Rattle.client_session.specs.Ends.{StopsBy, view_end};
+ghost use Rattle.client_session.specs.Sessions.{RepliedBefore, Shows, Steers, is_here, is_in_line, is_leaving, session_wants, stand_after, view_taken, view_wants};
 ghost use Rattle.client_session.specs.Stores.{IsOfLayout, KeepsSession};
 
 use crate::desk::{Desk, sound};
@@ -96,6 +98,13 @@ impl Session {
         })
     }
 
+    /// The number of the grant.
+    pub fn grant(&self) -> usize
+        ensures { result ≡ self.now.grant }
+    {
+        self.progress.tap.grant()
+    }
+
     /// A session begins: the chain is as after TRST, and the session is going.
     pub fn open(&mut self, layout: &Layout)
         requires layout { IsOfLayout layout.now self.old }
@@ -104,6 +113,7 @@ impl Session {
         requires fit { self.old.view.spent ≡ false }
         ensures kept { KeepsSession self.old self.new }
         ensures going { (self.new.view.stand ≡ Going) × (self.new.view.reply ≡ []) × (self.new.view.spent ≡ false) }
+        ensures closed { self.old.view.tap.scan_open ≡ false }
         ensures shut { self.new.view.tap.scan_open ≡ false }
         ensures shown { (conn : ℕ) (seat : Seat) (given : List ℕ) → types_of seat.chain ≡ self.old.parts → Shows self.old.view false seat given → Shows self.new.view false (opened conn seat) [] }
     {
@@ -133,6 +143,7 @@ impl Session {
 
     /// The peer's next bytes came, as many as are wanted at most, with its replies given: they are used, and the session goes on until
     /// nothing is left to do, it has to wait for the shared chain, or it ends. What it does is what the private chain of its grant does.
+    /// Over every cable it waits only where another grant is before it, and else stops where its bytes have it stop.
     ///
     /// `Broken` comes only where the cable's count of faults rose in the call. The replies are then a front of the private ones.
     pub fn feed<C: Cable>(
@@ -159,10 +170,13 @@ impl Session {
         ensures failed { IfErr result (λ broken. (given : List ℕ) (turn : Turn) → Shows self.old.view false turn.seat given
             → ServedBy layout.now self.old.grant desk (C.chain (cable_of desk.side)) turn → RepliedBefore self.new.view given (record turn { seat = received piece.now turn.seat }).seat) }
         ensures stands { IfOk result (λ pair. self.new.view.stand ≡ stand_after pair.0 (false)) }
+        ensures stops { IfOk result (λ pair. StopsBy (view_end self.old.view piece.now) false (view_taken self.old.view + length piece.now) pair.0) }
         ensures fit { OnOk result (self.new.view.spent ≡ false) }
         ensures spent { OnErr result (self.new.view.spent ≡ true) }
         ensures desk { IfOk result (λ pair. IsDesk layout.now self.new.grant self.new.view.tap pair.1) }
         ensures line { IfOk result (λ pair. is_among self.new.grant (waiting pair.1) ≡ is_in_line self.new.view.stand) }
+        ensures blocked { IfOk result (λ pair. pair.0 ≡ stops.Waits → IsBlocked self.new.grant pair.1) }
+        ensures taken { IfOk result (λ pair. TakesOn pair.0 (view_taken self.old.view + length piece.now) (view_taken self.new.view)) }
         ensures others { IfOk result (λ pair. KeepsOthers self.old.grant desk pair.1) }
         ensures whole { IfOk result (λ pair. Told (C.chain (cable_of pair.1.side)) (IsWhole layout.now)) }
         ensures mark { C.mark (cable_then result) ≡ C.mark (cable_of desk.side) }
@@ -206,10 +220,13 @@ impl Session {
         ensures failed { IfErr result (λ broken. (given : List ℕ) (turn : Turn) → Shows self.old.view true turn.seat given
             → ServedBy layout.now self.old.grant desk (C.chain (cable_of desk.side)) turn → RepliedBefore self.new.view given turn.seat) }
         ensures stands { IfOk result (λ pair. self.new.view.stand ≡ stand_after pair.0 (is_leaving self.old.view.stand)) }
+        ensures here { OnOk result (self.new.view.stand ≡ Going → is_leaving self.old.view.stand ≡ false) }
+        ensures stops { IfOk result (λ pair. StopsBy (view_end self.old.view []) (is_leaving self.old.view.stand) (view_taken self.old.view) pair.0) }
         ensures fit { OnOk result (self.new.view.spent ≡ false) }
         ensures spent { OnErr result (self.new.view.spent ≡ true) }
         ensures desk { IfOk result (λ pair. IsDesk layout.now self.new.grant self.new.view.tap pair.1) }
         ensures line { IfOk result (λ pair. is_among self.new.grant (waiting pair.1) ≡ is_in_line self.new.view.stand) }
+        ensures blocked { IfOk result (λ pair. pair.0 ≡ stops.Waits → IsBlocked self.new.grant pair.1) }
         ensures others { IfOk result (λ pair. KeepsOthers self.old.grant desk pair.1) }
         ensures whole { IfOk result (λ pair. Told (C.chain (cable_of pair.1.side)) (IsWhole layout.now)) }
         ensures mark { C.mark (cable_then result) ≡ C.mark (cable_of desk.side) }
@@ -255,10 +272,12 @@ impl Session {
         ensures failed { IfErr result (λ broken. (given : List ℕ) (turn : Turn) → Shows self.old.view (is_in_line self.old.view.stand) turn.seat given
             → ServedBy layout.now self.old.grant desk (C.chain (cable_of desk.side)) turn → RepliedBefore self.new.view given (record turn { seat = record turn.seat { gone = true } }).seat) }
         ensures stands { IfOk result (λ pair. self.new.view.stand ≡ stand_after pair.0 (true)) }
+        ensures left { OnOk result (self.new.view.stand ≢ Going) }
         ensures fit { OnOk result (self.new.view.spent ≡ false) }
         ensures spent { OnErr result (self.new.view.spent ≡ true) }
         ensures desk { IfOk result (λ pair. IsDesk layout.now self.new.grant self.new.view.tap pair.1) }
         ensures line { IfOk result (λ pair. is_among self.new.grant (waiting pair.1) ≡ is_in_line self.new.view.stand) }
+        ensures ends { IfOk result (λ pair. self.old.view.stand ≡ Going → pair.0 ≡ stops.Ended (gone_end self.old.view.used self.old.view.unused)) }
         ensures others { IfOk result (λ pair. KeepsOthers self.old.grant desk pair.1) }
         ensures whole { IfOk result (λ pair. Told (C.chain (cable_of pair.1.side)) (IsWhole layout.now)) }
         ensures mark { C.mark (cable_then result) ≡ C.mark (cable_of desk.side) }

@@ -15,7 +15,7 @@ ghost use Rattle.virtual_tap.specs.Views.{MovesAs, StandsFor, at_capture};
 ghost use Rattle.client_session.specs.Turns.{Turn};
 ghost use Rattle.client_session.specs.Sessions.{DeskView};
 ghost use Rattle.client_session.specs.Stores.{HoldsShift};
-ghost use Rattle.client_session.specs.Desks.{Attends, Entered, IsDesk, IsSound, KeepsOthers, LegTo, LegWithin, MayWait, StopsAt, StopsWell, cable_after, cable_of, cable_then};
+ghost use Rattle.client_session.specs.Desks.{Attends, Entered, IsDesk, IsSound, KeepsOthers, LegTo, LegWithin, MayWait, StopsAt, StopsWell, WaitsBlocked, cable_after, cable_of, cable_then};
 ghost use Rattle.client_session.specs.Messaging.{waits_after};
 ghost use Rattle.client_session.specs.Going.{GoesTo, IsToClose, Leads, PausesWell, PutsBit, SampledAt, ShiftsAt, WalksTo, closed_if};
 
@@ -208,6 +208,7 @@ pub fn next_leg<C: Cable>(
         → GoesTo layout.now grant (Attends layout.now grant base_desk base (LegTo pair.0 layout.now frame.new tap.new cycles grant) pair.1 (C.chain (cable_of pair.1.side))) turn) }
     ensures within { IfOk result (λ pair. LegWithin pair.0 tap.new from cycles) }
     ensures waits { IfOk result (λ pair. MayWait pair.0 grant (waiting pair.1)) }
+    ensures blocked { IfOk result (λ pair. WaitsBlocked (waits_after pair.0) grant pair.1) }
     ensures there { IfOk result (λ pair. is_some tap.new.view.register ≡ true) }
     ensures low { IfOk result (λ pair. ScansAt false tap.new.view) }
     ensures desk { IfOk result (λ pair. IsDesk layout.now grant tap.new.view pair.1) }
@@ -263,6 +264,7 @@ pub fn shift_on<C: Cable>(
         → Attends layout.now grant base_desk base (ShiftsAt frame.old tap.old from grant) desk (C.chain (cable_of desk.side)) turn
         → GoesTo layout.now grant (Attends layout.now grant base_desk base (StopsAt pair.0 layout.now frame.new tap.new cycles grant) pair.1 (C.chain (cable_of pair.1.side))) turn) }
     ensures stops { IfOk result (λ pair. StopsWell pair.0 tap.new cycles grant (waiting pair.1)) }
+    ensures blocked { IfOk result (λ pair. WaitsBlocked (is_some pair.0) grant pair.1) }
     ensures there { IfOk result (λ pair. is_some tap.new.view.register ≡ true) }
     ensures low { IfOk result (λ pair. ScansAt false tap.new.view) }
     ensures desk { IfOk result (λ pair. IsDesk layout.now grant tap.new.view pair.1) }
@@ -315,6 +317,7 @@ pub fn resume_shift<C: Cable>(
         → Attends layout.now grant base_desk base (SampledAt frame.old tap.old at grant) desk (C.chain (cable_of desk.side)) turn
         → GoesTo layout.now grant (Attends layout.now grant base_desk base (StopsAt pair.0 layout.now frame.new tap.new cycles grant) pair.1 (C.chain (cable_of pair.1.side))) turn) }
     ensures stops { IfOk result (λ pair. StopsWell pair.0 tap.new cycles grant (waiting pair.1)) }
+    ensures blocked { IfOk result (λ pair. WaitsBlocked (is_some pair.0) grant pair.1) }
     ensures there { IfOk result (λ pair. is_some tap.new.view.register ≡ true) }
     ensures low { IfOk result (λ pair. ScansAt false tap.new.view) }
     ensures desk { IfOk result (λ pair. IsDesk layout.now grant tap.new.view pair.1) }

@@ -3,7 +3,7 @@ use Rattle.chain_token.specs.Tokens.{waiting}
 use Rattle.chain_token.specs.Waiting.{is_among}
 use Rattle.client_session.specs.Desks.{cable_of}
 use Rattle.client_session.proofs.Edges.{capture_made, capture_waits}
-use Rattle.client_session.proofs.Others.{not_among, others_opened, others_waited}
+use Rattle.client_session.proofs.Others.{blocked_waited, not_among, others_opened, others_waited}
 use Rattle.client_session.proofs.Resting.{joined}
 use Rattle.client_session.proofs.lines.rise_at_capture.Goals as goal
 
@@ -31,3 +31,6 @@ returns-in_ok-desk-in-Yours-clause-line g c =
 pub returns-in_ok-desk-in-Yours-clause-others : goal.returns-in_ok-desk-in-Yours-clause-others
 returns-in_ok-desk-in-Yours-clause-others g c =
     others_opened c.args.grant c.args.desk c.in_ok-desk-in-Yours.desk c.in-Yours.parked c.in-Yours.queue c.in-Yours.ensures c.in_ok-desk-in-Yours.ensures.opened.held c.in_ok-desk-in-Yours.ensures.opened.waits_are
+
+pub returns-in-Wait-clause-blocked : goal.returns-in-Wait-clause-blocked
+returns-in-Wait-clause-blocked g c = blocked_waited c.args.grant c.args.tap.now.view c.args.desk c.in-Wait.desk c.requires.capture c.requires.desk.holds c.in-Wait.ensures

@@ -3,7 +3,7 @@ use Rattle.chain_token.specs.Waiting.{is_among}
 use Rattle.client_session.specs.Desks.{cable_of}
 use Rattle.client_session.specs.Going.{ShiftsAt}
 use Rattle.client_session.proofs.Entering.{made_leg, update_leg, wait_leg, capture_leg, some_bits, desk_on}
-use Rattle.client_session.proofs.Others.{not_among, others_opened, others_same, others_waited}
+use Rattle.client_session.proofs.Others.{blocked_waited, not_among, others_opened, others_same, others_waited}
 use Rattle.client_session.proofs.Resting.{joined}
 use Rattle.client_session.proofs.shift.next_leg.Goals as goal
 
@@ -55,3 +55,6 @@ returns-in_ok-desk-in-Yours-clause-others g c =
 
 pub returns-in_ok-desk-in-Yours-clause-line : goal.returns-in_ok-desk-in-Yours-clause-line
 returns-in_ok-desk-in-Yours-clause-line g c = λ free. ap (is_among c.args.grant) (c.in_ok-desk-in-Yours.ensures.entered.waits_are ∙ c.in-Yours.ensures.2) ∙ not_among c.args.grant c.args.desk.queue
+
+pub returns-in-Wait-clause-blocked : goal.returns-in-Wait-clause-blocked
+returns-in-Wait-clause-blocked g c = blocked_waited c.args.grant c.walk.new.tap.view c.args.desk c.in-Wait.desk c.in-Capture.ensures.pauses.1 (c.requires.desk.holds ∙ sym c.in-Capture.ensures.scan) c.in-Wait.ensures

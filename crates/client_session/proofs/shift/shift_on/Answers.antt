@@ -1,5 +1,5 @@
 use Rattle.std.proofs.Common.{ap, subst, ◌∙◌}
-use Rattle.client_session.specs.Desks.{Attends, LegTo, LegWithin, cable_of}
+use Rattle.client_session.specs.Desks.{Attends, LegTo, LegWithin, WaitsBlocked, cable_of}
 use Rattle.client_session.specs.Going.{GoesTo, ShiftsAt}
 use Rattle.client_session.specs.declared.shift.Leg.TheVariants.{Made, On, Waits}
 use Rattle.client_session.specs.Messaging.{waits_after}
@@ -56,3 +56,6 @@ loop-leg-preserved g c =
           (λ here there. subst (λ leg. GoesTo c.args.layout.now c.args.grant (Attends c.args.layout.now c.args.grant base_desk base (LegTo leg c.args.layout.now c.next_leg.new.frame c.next_leg.new.tap c.args.cycles c.args.grant) c.in_ok-leg.next (g.C.Cable.chain (cable_of c.in_ok-leg.next.side))) here)
           c.in-On.is (c.in_ok-leg.ensures.went base_desk base here whole there));
     }
+
+pub returns-in-Waits-clause-blocked : goal.returns-in-Waits-clause-blocked
+returns-in-Waits-clause-blocked g c = subst (λ leg. WaitsBlocked (waits_after leg) c.args.grant c.in_ok-leg.next) c.in-Waits.is c.in_ok-leg.ensures.blocked

@@ -2,7 +2,7 @@ use Rattle.std.proofs.Common.{ap, refl, subst, sym, ◌∙◌}
 use Rattle.client_session.specs.declared.input.Input.TheVariants.{Xvc}
 use Rattle.client_session.specs.declared.input.Work.TheVariants.{Shifting}
 use Rattle.client_session.specs.Calls.{HaltsAt, ShowsSeat}
-use Rattle.client_session.specs.Desks.{StopsAt, cable_of}
+use Rattle.client_session.specs.Desks.{StopsAt, WaitsBlocked, cable_of}
 use Rattle.client_session.specs.Going.{ShiftsAt}
 use Rattle.client_session.specs.Stores.{held_unused}
 use Rattle.client_session.specs.Messaging.{frame_of, work_of}
@@ -33,3 +33,6 @@ returns-clause-went g c = λ given base_desk base turn whole attends.
     (c.in_ok-stop-in-Xvc.ensures.went base_desk base turn whole)
     (λ last shows kept there. c.end_shift.ensures.went layout grant given last (bytes_on old mid grant given turn last none (sym c.requires.protocol) refl refl refl refl unused refl shows kept) there)
     attends
+
+pub returns-clause-blocked : goal.returns-clause-blocked
+returns-clause-blocked g c = subst (λ waits. WaitsBlocked waits c.args.grant c.in_ok-stop-in-Xvc.next) (sym c.end_shift.ensures.waits) c.in_ok-stop-in-Xvc.ensures.blocked

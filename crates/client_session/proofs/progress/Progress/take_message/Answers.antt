@@ -1,7 +1,14 @@
+use Rattle.std.proofs.Common.{◌+◌, ◌++◌, ap, sym, ◌∙◌, Some, None}
+use Rattle.grant_table.specs.declared.Protocol.TheVariants as protocols
+use Rattle.xvc_frame.specs.declared.FrameStep.TheVariants as steps
+use Rattle.client_session.specs.declared.End.TheVariants as ends
+use Rattle.client_session.specs.Stores.{unused_of}
+use Rattle.client_session.specs.Ends.{bytes_end}
 use Rattle.client_session.specs.declared.halt.Halt.TheVariants.{Rests, Ends}
 use Rattle.client_session.specs.Calls.{HaltsAt, ShowsFed, ShowsSeat}
 use Rattle.client_session.specs.Desks.{cable_of}
 use Rattle.client_session.proofs.Messaging.{attends_as, comes_quietly, if_err, if_ok, quietly_none, rests_there, taken_shows}
+use Rattle.client_session.proofs.ByBytes.{halts_by, taken_ends}
 use Rattle.client_session.proofs.progress.Progress.take_message.Goals as goal
 
 pub returns-in-More-clause-went : goal.returns-in-More-clause-went
@@ -44,3 +51,18 @@ returns-in-Whole-clause-failed g c =
     (attends_as c.args.layout.now c.args.grant c.requires.sound base_desk base (ShowsFed c.args.self.now c.args.piece.now c.args.grant given) (ShowsSeat c.take_bytes.new.self c.args.grant given) c.args.desk (g.C.Cable.chain (cable_of c.args.desk.side)) turn
     (taken_shows c.args.self.now c.take_bytes.new.self c.args.piece.now c.args.grant given turn taken.replied.protocol taken.work taken.replied.pending c.in-Whole.ensures.lines c.in-Whole.ensures.bytes) attends))
     c.use_message.ensures.failed
+
+pub returns-in-More-clause-ends : goal.returns-in-More-clause-ends
+returns-in-More-clause-ends g c = taken_ends c.args.self.now c.take_bytes.new.self c.args.piece.now steps.More c.in-More.ensures.taken c.in-More.ensures.lines c.in-More.ensures.bytes
+
+pub returns-in-Refused-clause-ends : goal.returns-in-Refused-clause-ends
+returns-in-Refused-clause-ends g c =
+    taken_ends c.args.self.now c.take_bytes.new.self c.args.piece.now (steps.Refused c.in-Refused.at c.in-Refused.cause) c.in-Refused.ensures.taken c.in-Refused.ensures.lines c.in-Refused.ensures.bytes
+    ∙ ap (λ used. Some (ends.Refused (used + c.in-Refused.at) c.in-Refused.cause)) (sym c.in-Refused.ensures.bytes.used) ∙ ap Some (sym c.refuse-end.ensures.place)
+
+pub returns-in-Whole-clause-ends : goal.returns-in-Whole-clause-ends
+returns-in-Whole-clause-ends g c =
+    if_ok _ _ c.use_message.result
+    (λ pair by. halts_by (bytes_end protocols.Xvc c.args.self.now.vector c.args.self.now.used (unused_of c.args.self.now.input ++ c.args.piece.now)) None pair.0
+    (taken_ends c.args.self.now c.take_bytes.new.self c.args.piece.now (steps.Whole c.in-Whole.message) c.in-Whole.ensures.taken c.in-Whole.ensures.lines c.in-Whole.ensures.bytes) by)
+    c.use_message.ensures.ends

@@ -6,6 +6,7 @@ use Rattle.scan_share.specs.Scans.{IsWhole}
 use Rattle.client_session.specs.Turns.{Turn}
 use Rattle.client_session.specs.Sessions.{DeskView}
 use Rattle.client_session.specs.Stores.{KeepsProgress, acts_of, unused_of}
+use Rattle.client_session.specs.Ends.{letters_end}
 use Rattle.client_session.specs.Desks.{Attends, IsDesk, KeepsOthers, cable_of}
 use Rattle.client_session.specs.Calls.{ComesTo, KeepsSettings, MayGoOn, ShowsSeat}
 use Rattle.client_session.proofs.progress.Progress.use_letters.Given as goal
@@ -14,6 +15,8 @@ abbrev pub invariant-loop-act : goal.invariant-loop-act
 invariant-loop-act g l = record {
   keeps : KeepsProgress l.self;
   same : KeepsSettings l.fn.self l.self;
+  taken : l.self.taken ≡ l.fn.self.taken;
+  ends : letters_end l.self.used (unused_of l.self.input) ≡ letters_end l.fn.self.used (unused_of l.fn.self.input);
   fit : MayGoOn l.self;
   none : acts_of l.self.input ≡ [];
   desk_is : IsDesk l.layout l.grant l.self.tap.view l.desk;
