@@ -1,5 +1,5 @@
 -- Bytes of the input that came to the session, and their replies that went out.
-use Rattle.std.proofs.Common.{◌≡◌, ◌≤◌, ◌<◌, ℕ, suc, ◌^◌, Bool, true, false, List, [], ◌++◌, length, take, drop, refl, ap, sym, ◌∙◌, subst, arith, length-append, append_assoc, take-append-drop, Some, None}
+use Rattle.std.proofs.Common.{◌≡◌, ◌≤◌, ℕ, Bool, true, false, List, [], ◌++◌, length, take, drop, refl, ap, sym, ◌∙◌, subst, append_assoc, take-append-drop, Some, None}
 use Rattle.std.specs.declared.option.Option.{Option}
 use Rattle.std.specs.Io.KnownBytes.{Appends, Consumes, Keeps, IsAtEnd}
 use Rattle.std.proofs.KnownBytes.{Appends-nil, Appends-trans, Consumes-nil, Consumes-trans, Consumes-kept}
@@ -49,8 +49,8 @@ module _ {C : Type 0} (layout : LayoutShape) (grant : ℕ) (left rest sent sent'
 
 -- ---- a piece that came
 
-module _ {C : Type 0} (turns : ℕ) (layout : LayoutShape) (grant : ℕ) (view : SessionView) (left between rest sent now : Option (List ℕ)) (base : DeskView) (desk : Token (ParkedView C) (OpenView C)) (told : Option ChainState) (start : Turn)
-    (went : GoesOn turns layout grant view left between sent now base desk told start) (piece : List ℕ) (consumed : Consumes between rest piece) where
+module _ {C : Type 0} (layout : LayoutShape) (grant : ℕ) (view : SessionView) (left between rest sent now : Option (List ℕ)) (base : DeskView) (desk : Token (ParkedView C) (OpenView C)) (told : Option ChainState) (start : Turn)
+    (went : GoesOn layout grant view left between sent now base desk told start) (piece : List ℕ) (consumed : Consumes between rest piece) where
   all_consumed : Consumes left rest (went.taken ++ piece)
   all_consumed = Consumes-trans left between rest went.taken piece went.consumed consumed
 
@@ -59,12 +59,11 @@ module _ {C : Type 0} (turns : ℕ) (layout : LayoutShape) (grant : ℕ) (view :
 
   module _ (reply : List ℕ) (later : Option (List ℕ)) (next : Token (ParkedView C) (OpenView C)) (after : Option ChainState) where
     -- all replies went out
-    pub on_more : (new_view : SessionView) → 1 ≤ length piece → Appends now later reply → Reached layout grant new_view base next after start (went.taken ++ piece) (went.given ++ reply)
-        → GoesOn (suc turns) layout grant new_view left rest sent later base next after start
-    on_more new_view some wrote reached = record {
+    pub on_more : (new_view : SessionView) → Appends now later reply → Reached layout grant new_view base next after start (went.taken ++ piece) (went.given ++ reply)
+        → GoesOn layout grant new_view left rest sent later base next after start
+    on_more new_view wrote reached = record {
       taken = went.taken ++ piece;
       given = went.given ++ reply;
-      counted = omega (arith, some, went.counted, length-append went.taken piece);
       consumed = all_consumed;
       wrote = Appends-trans sent now later went.given reply went.wrote wrote;
       reached = reached;
@@ -95,8 +94,8 @@ module _ {C : Type 0} (turns : ℕ) (layout : LayoutShape) (grant : ℕ) (view :
 
 -- ---- a read without bytes
 
-module _ {C : Type 0} (turns : ℕ) (layout : LayoutShape) (grant : ℕ) (view : SessionView) (left between rest sent now : Option (List ℕ)) (base : DeskView) (desk : Token (ParkedView C) (OpenView C)) (told : Option ChainState) (start : Turn)
-    (went : GoesOn turns layout grant view left between sent now base desk told start) (next : Token (ParkedView C) (OpenView C)) (after : Option ChainState) where
+module _ {C : Type 0} (layout : LayoutShape) (grant : ℕ) (view : SessionView) (left between rest sent now : Option (List ℕ)) (base : DeskView) (desk : Token (ParkedView C) (OpenView C)) (told : Option ChainState) (start : Turn)
+    (went : GoesOn layout grant view left between sent now base desk told start) (next : Token (ParkedView C) (OpenView C)) (after : Option ChainState) where
   nothing_more : Consumes between rest [] → Consumes left rest went.taken
   nothing_more consumed = subst (Consumes left rest) (append-nil went.taken) (Consumes-trans left between rest went.taken [] went.consumed consumed)
 
@@ -126,45 +125,26 @@ module _ {C : Type 0} (turns : ℕ) (layout : LayoutShape) (grant : ℕ) (view :
 -- ---- the whole input
 
 module _ {C : Type 0} (layout : LayoutShape) (grant : ℕ) (sound : IsSound layout grant) (view : SessionView) (left rest sent sent' : Option (List ℕ)) (desk : Token (ParkedView C) (OpenView C)) (start : Turn) (going : view.stand ≡ Stand.Going) where
-  begun : (chain : ChainState) → Shows view false start.seat [] → IsFinished start.seat → ServedBy layout grant desk (Some chain) start → IsByItself grant start → GoesOn 0 layout grant view left left sent sent (desk_of layout desk chain) desk (Some chain) start
+  begun : (chain : ChainState) → Shows view false start.seat [] → IsFinished start.seat → ServedBy layout grant desk (Some chain) start → IsByItself grant start → GoesOn layout grant view left left sent sent (desk_of layout desk chain) desk (Some chain) start
   begun chain shows done serves itself = record {
     taken = [];
     given = [];
-    counted = omega arith;
     consumed = Consumes-nil left;
     wrote = Appends-nil sent;
     reached = reaches_none layout grant sound view desk chain start going shows done serves itself;
   }
 
   pub served_between : (served : Served) (next : Token (ParkedView C) (OpenView C)) (before after : Option ChainState)
-      → ((base : DeskView) → GoesOn 0 layout grant view left left sent sent base desk before start → ServedFrom layout grant served left rest sent sent' base next after start)
+      → ((base : DeskView) → GoesOn layout grant view left left sent sent base desk before start → ServedFrom layout grant served left rest sent sent' base next after start)
       → Shows view false start.seat [] → IsFinished start.seat → ServedBy layout grant desk before start → IsByItself grant start
       → ServedBetween layout grant served left rest sent sent' desk next before after start
   served_between served next None after so shows done serves itself = absurd serves
   served_between served next (Some chain) after so shows done serves itself = so (desk_of layout desk chain) (begun chain shows done serves itself)
 
-  pub cut_off : (before : Option ChainState) → ((base : DeskView) → GoesOn 0 layout grant view left left sent sent base desk before start → WasCutOff left rest sent sent' start.seat)
+  pub cut_off : (before : Option ChainState) → ((base : DeskView) → GoesOn layout grant view left left sent sent base desk before start → WasCutOff left rest sent sent' start.seat)
       → Shows view false start.seat [] → IsFinished start.seat → ServedBy layout grant desk before start → IsByItself grant start → WasCutOff left rest sent sent' start.seat
   cut_off None so shows done serves itself = absurd serves
   cut_off (Some chain) so shows done serves itself = so (desk_of layout desk chain) (begun chain shows done serves itself)
-
--- more turns than bytes of a session
-pub never_so_long : {C : Type 0} (turns : ℕ) (layout : LayoutShape) (grant : ℕ) (view : SessionView) (left rest sent sent' : Option (List ℕ)) (base : DeskView) (desk : Token (ParkedView C) (OpenView C)) (told : Option ChainState) (start : Turn) → 2 ^ 62 < turns
-    → GoesOn turns layout grant view left rest sent sent' base desk told start → ⊥
-never_so_long turns layout grant view left rest sent sent' base desk None start long went = absurd went.reached
-never_so_long turns layout grant view left rest sent sent' base desk (Some chain) start long went = omega (arith, long, went.counted, went.reached.few)
-
--- no fewer bytes than turns
-pub fewer : {C : Type 0} (fewer_turns turns : ℕ) (layout : LayoutShape) (grant : ℕ) (view : SessionView) (left rest sent sent' : Option (List ℕ)) (base : DeskView) (desk : Token (ParkedView C) (OpenView C)) (told : Option ChainState) (start : Turn) → fewer_turns ≤ turns
-    → GoesOn turns layout grant view left rest sent sent' base desk told start → GoesOn fewer_turns layout grant view left rest sent sent' base desk told start
-fewer fewer_turns turns layout grant view left rest sent sent' base desk told start le went = record {
-  taken = went.taken;
-  given = went.given;
-  counted = omega (arith, le, went.counted);
-  consumed = went.consumed;
-  wrote = went.wrote;
-  reached = went.reached;
-}
 
 pub kept_more : (old mid new : SessionState) → KeepsSession old mid → KeepsSession mid new → KeepsSession old new
 kept_more old mid new first second = record {

@@ -1,5 +1,5 @@
 -- A session of a seat by itself, between two pieces of its bytes and to its end.
-use Rattle.std.proofs.Common.{◌≡◌, ◌≤◌, ◌<◌, ℕ, zero, suc, ◌+◌, ◌-◌, Bool, true, false, cond, List, [], ◌∷◌, ◌++◌, length, take, refl, ap, sym, ◌∙◌, subst, arith, length-append, length-take, length-drop, inl, inr, ◌⊎◌, nat_le}
+use Rattle.std.proofs.Common.{◌≡◌, ◌<◌, ℕ, zero, suc, ◌+◌, ◌-◌, Bool, true, false, cond, List, [], ◌∷◌, ◌++◌, take, refl, ap, sym, ◌∙◌, subst, arith, length-drop, inl, inr, ◌⊎◌, nat_le}
 use Rattle.std.specs.declared.option.Option.{Option}
 use Rattle.std.proofs.lemmas.List.{append-nil}
 use Rattle.std.proofs.lemmas.Bool.{eq-eqb}
@@ -25,7 +25,6 @@ pub record Stays (new old : Seat) : Type 0 where
   pub here : new.gone ≡ false
   pub conn : new.conn ≡ old.conn
   pub past : new.past ≡ old.past
-  pub taken : taken new ≡ taken old
 
 -- the session ends, by no drop
 pub record Leaves (new old : Seat) : Type 0 where
@@ -48,17 +47,17 @@ abbrev Step : Seat → Seat → Type 0
 Step new old = Stays new old ⊎ Ends new old
 
 still : (seat : Seat) → seat.going ≡ true → seat.gone ≡ false → Stays seat seat
-still seat g h = record { going = g; here = h; conn = refl; past = refl; taken = refl }
+still seat g h = record { going = g; here = h; conn = refl; past = refl }
 
 act_step : (act : Act) (acts : List Act) (seat : Seat) → seat.going ≡ true → seat.gone ≡ false → Step (acted act (record seat { acts = acts })) seat
-act_step (Say x) acts seat g h = inl (record { going = g; here = h; conn = refl; past = refl; taken = refl })
-act_step SayTdo acts seat g h = inl (record { going = g; here = h; conn = refl; past = refl; taken = refl })
-act_step Sample acts seat g h = inl (record { going = g; here = h; conn = refl; past = refl; taken = refl })
-act_step (Rise tms tdi) acts seat g h = inl (record { going = g; here = h; conn = refl; past = refl; taken = refl })
-act_step Fall acts seat g h = inl (record { going = g; here = h; conn = refl; past = refl; taken = refl })
-act_step Pack acts seat g h = inl (record { going = g; here = h; conn = refl; past = refl; taken = refl })
-act_step (SetLines tck tms tdi) acts seat g h = inl (record { going = g; here = h; conn = refl; past = refl; taken = refl })
-act_step (SetTrst level) acts seat g h = inl (record { going = g; here = h; conn = refl; past = refl; taken = refl })
+act_step (Say x) acts seat g h = inl (record { going = g; here = h; conn = refl; past = refl })
+act_step SayTdo acts seat g h = inl (record { going = g; here = h; conn = refl; past = refl })
+act_step Sample acts seat g h = inl (record { going = g; here = h; conn = refl; past = refl })
+act_step (Rise tms tdi) acts seat g h = inl (record { going = g; here = h; conn = refl; past = refl })
+act_step Fall acts seat g h = inl (record { going = g; here = h; conn = refl; past = refl })
+act_step Pack acts seat g h = inl (record { going = g; here = h; conn = refl; past = refl })
+act_step (SetLines tck tms tdi) acts seat g h = inl (record { going = g; here = h; conn = refl; past = refl })
+act_step (SetTrst level) acts seat g h = inl (record { going = g; here = h; conn = refl; past = refl })
 act_step (EndAt at) acts seat g h = inr (record { how = End.Quit at; own = λ rest. tt; new_is = refl })
 
 quiet_step : (seat : Seat) → seat.going ≡ true → seat.gone ≡ false → Step (without_message seat) seat
@@ -69,13 +68,13 @@ quiet_step seat g h = by (nat_le most_bytes (taken seat)) seat.gone h
     by false true e = absurd (let q : true ≡ false = e in cc)
     by false false e = inl (still seat g h)
 
-load_step : (n : Next) (seat : Seat) → NextFits seat.unused n → seat.going ≡ true → seat.gone ≡ false → Step (load_next n seat) seat
-load_step (Whole acts count) seat fits g h = inl (record { going = g; here = h; conn = refl; past = refl; taken = omega (arith, fits, length-drop count seat.unused) })
-load_step (RefusedAt at cause) seat fits g h = inr (record { how = End.Refused (seat.used + at) cause; own = λ rest. tt; new_is = refl })
-load_step Nothing seat fits g h = quiet_step seat g h
+load_step : (n : Next) (seat : Seat) → seat.going ≡ true → seat.gone ≡ false → Step (load_next n seat) seat
+load_step (Whole acts count) seat g h = inl (record { going = g; here = h; conn = refl; past = refl })
+load_step (RefusedAt at cause) seat g h = inr (record { how = End.Refused (seat.used + at) cause; own = λ rest. tt; new_is = refl })
+load_step Nothing seat g h = quiet_step seat g h
 
 step : (acts : List Act) (seat : Seat) → seat.going ≡ true → seat.gone ≡ false → Step (step_of acts seat) seat
-step [] seat g h = load_step (next_in seat.protocol seat) seat (next_fits seat.protocol seat) g h
+step [] seat g h = load_step (next_in seat.protocol seat) seat g h
 step (act ∷ acts) seat g h = act_step act acts seat g h
 
 advanced_step : (seat : Seat) → seat.going ≡ true → seat.gone ≡ false → Step (advanced seat) seat
@@ -85,7 +84,7 @@ advanced_step seat g h = subst (λ s. Step s seat) (going_step g) (step seat.act
     going_step e = rw e refl
 
 more : (new between old : Seat) → Stays between old → Steps new between → Steps new old
-more new between old first (inl on) = inl (record { going = on.going; here = on.here; conn = on.conn ∙ first.conn; past = on.past ∙ first.past; taken = on.taken ∙ first.taken })
+more new between old first (inl on) = inl (record { going = on.going; here = on.here; conn = on.conn ∙ first.conn; past = on.past ∙ first.past })
 more new between old first (inr off) = inr (record {
   how = off.how;
   replies = off.replies;
@@ -195,10 +194,6 @@ ended_input start seat bytes is free =
 
 pub dropped_input : (start seat : Seat) (bytes : List ℕ) → seat ≡ after_bytes bytes start → seat.going ≡ true → seat.conn ≡ start.conn → finished (marked seat) ≡ after_input bytes start
 dropped_input start seat bytes is going conn = ap finished (sym (dropped_is start.conn seat going conn) ∙ ap (dropped start.conn) is)
-
--- how many bytes were taken
-pub taken_piece : (seat : Seat) (piece : List ℕ) → length piece ≤ most_bytes - taken seat → taken (received piece seat) ≡ taken seat + length piece
-taken_piece seat piece few = omega (arith, few, length-append seat.unused (take (most_bytes - taken seat) piece), length-take (most_bytes - taken seat) piece)
 
 pub may_end : (end : End) (rest : Option (List ℕ)) → IsAtEnd rest → MayEnd end rest
 may_end (End.Quit at) rest h = tt

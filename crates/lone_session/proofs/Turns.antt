@@ -1,7 +1,6 @@
 -- A grant by itself at the desk: its session uses bytes that come, and ends where its peer is gone.
-use Rattle.std.proofs.Common.{◌≡◌, ◌≤◌, ℕ, ◌+◌, ◌-◌, Bool, true, false, cond, List, [], ◌∷◌, ◌++◌, length, drop, refl, ap, sym, ◌∙◌, subst, arith, append_assoc, length-append, inl, inr, Some, None}
+use Rattle.std.proofs.Common.{◌≡◌, ℕ, Bool, true, false, cond, List, [], ◌∷◌, ◌++◌, length, drop, refl, ap, sym, ◌∙◌, subst, arith, append_assoc, inl, inr, Some, None}
 use Rattle.std.specs.declared.option.Option.{Option}
-use Rattle.std.proofs.Math.Nat.{min-le_right}
 use Rattle.std.proofs.lemmas.List.{append-nil, length-map}
 use Rattle.chain_model.specs.Chains.{ChainState}
 use Rattle.chain_token.specs.declared.token.Token.{Token}
@@ -19,14 +18,14 @@ use Rattle.client_session.specs.Seats as seats
 use Rattle.client_session.specs.Private.{received}
 use Rattle.client_session.specs.Turns.{Turn, gone_on, is_among}
 use Rattle.client_session.specs.Laws.{IsByItself}
-use Rattle.client_session.specs.Sessions.{Came, DeskView, IsPrefix, RepliedBefore, Serves, SessionView, Shows, is_in_line, stand_of, stop_with, view_wants, wanted_by}
+use Rattle.client_session.specs.Sessions.{Came, DeskView, IsPrefix, RepliedBefore, Serves, SessionView, Shows, is_in_line, stand_of, stop_with}
 use Rattle.client_session.specs.Desks.{IsSound, desk_of}
 use Rattle.client_session.specs.Calls.{CameOn, ServedBy}
 use Rattle.client_session.proofs.Itself.{none_waits}
 use Rattle.client_session.proofs.Shared.{with_same, with_twice}
 use Rattle.lone_session.specs.Serving.{EndedSo, after_bytes}
 use Rattle.lone_session.specs.Steps.{Closed, FedTo, Reached, Reaches}
-use Rattle.lone_session.proofs.Seats.{Steps, dropped_input, ended_input, after_finished, finished_drop, many_steps, none_taken, piece_taken, taken_piece}
+use Rattle.lone_session.proofs.Seats.{Steps, dropped_input, ended_input, after_finished, finished_drop, many_steps, none_taken, piece_taken}
 
 -- ---- devices of the others
 
@@ -125,14 +124,9 @@ module _ {C : Type 0} (layout : LayoutShape) (grant : ℕ) (sound : IsSound layo
   seat_here : r.turn.seat.gone ≡ false
   seat_here = r.shows.here refl
 
-  module _ (piece : List ℕ) (wanted : length piece ≤ view_wants view) where
+  module _ (piece : List ℕ) where
     abbrev fed : Turn
     fed = record r.turn { seat = received piece r.turn.seat }
-
-    few : length piece ≤ most_bytes - seats.taken r.turn.seat
-    few =
-        let all = min-le_right (wanted_by view.protocol view.vector view.unused) (most_bytes - (view.used + length view.unused)) in
-        omega (arith, wanted, all, r.shows.used, ap length r.shows.unused)
 
     module _ (stop : Stop) (came : Came layout grant new_view replies (desk_of layout desk before) (desk_of layout next after) (record r.turn { seat = received piece r.turn.seat }) stop) where
       alone : ((gone_on layout grant fed).seat ≡ finished fed.seat) × IsByItself grant (gone_on layout grant fed)
@@ -153,14 +147,11 @@ module _ {C : Type 0} (layout : LayoutShape) (grant : ℕ) (sound : IsSound layo
       fed_by : Steps (gone_on layout grant fed).seat fed.seat → FedTo stop layout grant new_view base next (Some after) start (taken ++ piece) (replies ++ new_view.reply)
       fed_by (inl on) =
           let stops : stop ≡ Stop.Done = came.goes.stops ∙ stops_on (is_among grant (gone_on layout grant fed).waiting) r.turn.seat.past (gone_on layout grant fed).seat.past none_wait on.past in
-          let size : seats.taken (gone_on layout grant fed).seat ≡ seats.taken r.turn.seat + length piece = on.taken ∙ taken_piece r.turn.seat piece few in
           subst (λ st. FedTo st layout grant new_view base next (Some after) start (taken ++ piece) (replies ++ new_view.reply)) (sym stops) (record {
             turn = gone_on layout grant fed;
             seat = seat_is;
             conn = on.conn ∙ r.conn;
             past = on.past ∙ r.past;
-            within = omega (arith, size, r.within, length-append taken piece);
-            few = omega (arith, few, r.within, r.few, length-append taken piece);
             shows = emptied new_view (gone_on layout grant fed).seat replies (subst (λ w. Shows new_view w (gone_on layout grant fed).seat replies) none_wait came.shows);
             serves = came.goes.serves;
             itself = alone.1;
@@ -224,20 +215,20 @@ module _ {C : Type 0} (layout : LayoutShape) (grant : ℕ) (sound : IsSound layo
 -- ---- over every cable
 
 module _ {C : Type 0} (layout : LayoutShape) (grant : ℕ) (sound : IsSound layout grant) (view new_view : SessionView) (base : DeskView) (start : Turn) (taken replies : List ℕ) (desk next : Token (ParkedView C) (OpenView C)) (going : view.stand ≡ Stand.Going) where
-  pub feeds : (before after : Option ChainState) (piece : List ℕ) (stop : Stop) → length piece ≤ view_wants view → Reached layout grant view base desk before start taken replies
+  pub feeds : (before after : Option ChainState) (piece : List ℕ) (stop : Stop) → Reached layout grant view base desk before start taken replies
       → ((given : List ℕ) (turn : Turn) → Shows view false turn.seat given → ServedBy layout grant desk before turn → CameOn layout grant new_view given desk next before after (record turn { seat = received piece turn.seat }) stop)
       → FedTo stop layout grant new_view base next after start (taken ++ piece) (replies ++ new_view.reply)
-  feeds None after piece stop wanted r came = absurd r
-  feeds (Some before) None piece stop wanted r came = absurd (came replies r.turn r.shows r.serves)
-  feeds (Some before) (Some after) piece stop wanted r came =
-      fed_to layout grant sound view new_view base start taken replies desk next going before after r piece wanted stop (came replies r.turn r.shows r.serves)
+  feeds None after piece stop r came = absurd r
+  feeds (Some before) None piece stop r came = absurd (came replies r.turn r.shows r.serves)
+  feeds (Some before) (Some after) piece stop r came =
+      fed_to layout grant sound view new_view base start taken replies desk next going before after r piece stop (came replies r.turn r.shows r.serves)
 
-  pub feeds_front : (before : Option ChainState) (piece : List ℕ) → length piece ≤ view_wants view → Reached layout grant view base desk before start taken replies
+  pub feeds_front : (before : Option ChainState) (piece : List ℕ) → Reached layout grant view base desk before start taken replies
       → ((given : List ℕ) (turn : Turn) → Shows view false turn.seat given → ServedBy layout grant desk before turn → RepliedBefore new_view given (received piece turn.seat))
       → IsPrefix replies (replies_now (after_bytes (taken ++ piece) start.seat))
-  feeds_front None piece wanted r failed = absurd r
-  feeds_front (Some before) piece wanted r failed =
-      fed_front layout grant sound view new_view base start taken replies desk desk going before before r piece wanted (failed replies r.turn r.shows r.serves)
+  feeds_front None piece r failed = absurd r
+  feeds_front (Some before) piece r failed =
+      fed_front layout grant sound view new_view base start taken replies desk desk going before before r piece (failed replies r.turn r.shows r.serves)
 
   pub drops : (before after : Option ChainState) (stop : Stop) → view.reply ≡ [] → Reached layout grant view base desk before start taken replies
       → ((given : List ℕ) (turn : Turn) → Shows view (is_in_line view.stand) turn.seat given → ServedBy layout grant desk before turn → CameOn layout grant new_view given desk next before after (record turn { seat = record turn.seat { gone = true } }) stop)
@@ -263,8 +254,6 @@ reaches_none layout grant sound view desk chain start going shows done serves it
   seat = none_taken start.seat done (going_seat start.seat view.stand going shows.stand) (shows.here refl);
   conn = refl;
   past = refl;
-  within = omega arith;
-  few = omega arith;
   shows = shows;
   serves = serves;
   itself = itself;

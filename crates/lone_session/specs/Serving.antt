@@ -1,5 +1,5 @@
 -- A session that is served from an input to an output, where its grant is by itself.
-use Rattle.std.specs.Prelude.{ℕ, ◌≡◌, ◌≤◌, List, [], ◌∷◌, ◌++◌}
+use Rattle.std.specs.Prelude.{ℕ, ◌≡◌, ◌≤◌, IfSome, List, [], ◌∷◌, ◌++◌}
 use Rattle.std.specs.declared.option.Option.{Option}
 use Rattle.std.specs.declared.option.Option.TheVariants.{None, Some}
 use Rattle.std.specs.declared.result.Result.{Result}
@@ -8,12 +8,13 @@ use Rattle.std.specs.Io.KnownBytes.{Appends, Consumes, IsAtEnd}
 use Rattle.base_types.specs.Counts.{Rose}
 use Rattle.chain_model.specs.Chains.{ChainState}
 use Rattle.chain_token.specs.declared.token.Token.{Token}
+use Rattle.chain_token.specs.Tokens.{holder, waiting}
+use Rattle.chain_token.specs.Waiting.{without}
 use Rattle.grant_table.specs.Layouts.{LayoutShape, group_of}
 use Rattle.scan_share.specs.Scans.{contents_of, with_contents}
 use Rattle.scan_share.specs.Views.{ParkedView, OpenView}
 use Rattle.client_session.specs.declared.End.{End}
 use Rattle.client_session.specs.declared.End.TheVariants.{Gone, Cut}
-use Rattle.client_session.specs.declared.Stand.{Stand}
 use Rattle.client_session.specs.Seats.{Seat, replies_now}
 use Rattle.client_session.specs.Private.{after_events}
 use Rattle.client_session.specs.Private.Event.{Took, Gone as PeerGone}
@@ -22,7 +23,12 @@ use Rattle.client_session.specs.Laws.{IsByItself}
 use Rattle.client_session.specs.Sessions.{DeskView, IsPrefix, Serves}
 use Rattle.client_session.specs.Desks.{desk_of}
 use Rattle.lone_session.specs.declared.Served.{Served}
-use Rattle.lone_session.specs.declared.Served.TheVariants.{Ended, ReadFault, WriteFault, Stuck}
+use Rattle.lone_session.specs.declared.Served.TheVariants.{Ended, ReadFault, WriteFault}
+
+-- nobody else is at the desk: nobody but the grant holds the chain, and nobody else waits for it
+pub record IsAlone {C : Type 0} (grant : ℕ) (desk : Token (ParkedView C) (OpenView C)) : Type 0 where
+  pub held : IfSome (holder desk) (λ other. other ≡ grant)
+  pub line : without grant (waiting desk) ≡ []
 
 -- the seat by itself after these bytes of its session, and once its peer is gone after them
 abbrev pub after_bytes : List ℕ → Seat → Seat
@@ -41,6 +47,11 @@ MayEnd (Gone count) rest = IsAtEnd rest
 MayEnd (Cut count) rest = IsAtEnd rest
 MayEnd _ rest = Unit {0}
 
+-- so over every cable
+abbrev pub EndsAt : Served → (rest : Option (List ℕ)) → Type 0
+EndsAt (Ended end) rest = MayEnd end rest
+EndsAt _ rest = Unit {0}
+
 -- the session of a turn has ended so, once these bytes were taken: the seat is what it is by itself, the desk serves it, and all other devices
 -- hold what they held
 pub record Closes (layout : LayoutShape) (grant : ℕ) (old_desk new_desk : DeskView) (start : Turn) (taken replies : List ℕ) (end : End) : Type 0 where
@@ -56,7 +67,6 @@ abbrev pub Gives : Served → End → (given replies : List ℕ) → (rest : Opt
 Gives (Ended told) end given replies rest = (told ≡ end) × (given ≡ replies) × MayEnd end rest
 Gives ReadFault end given replies rest = given ≡ replies
 Gives WriteFault end given replies rest = IsPrefix given replies
-Gives Stuck end given replies rest = ⊥
 
 -- a session was served to its end: bytes were taken from the input, and went out
 pub record WasServed (layout : LayoutShape) (grant : ℕ) (served : Served) (left rest sent sent' : Option (List ℕ)) (old_desk new_desk : DeskView) (start : Turn) : Type 0 where
@@ -86,18 +96,11 @@ pub record WasCutOff (left rest sent sent' : Option (List ℕ)) (seat : Seat) : 
   pub wrote : Appends sent sent' given
   pub front : IsPrefix given (replies_now (after_bytes taken seat))
 
--- the session has ended, unless it is stuck
-abbrev pub StandsAfter : Served → Stand → Type 0
-StandsAfter Stuck stand = Unit {0}
-StandsAfter _ stand = stand ≡ Stand.Free
-
--- a fault of the input or the output is answered only where its count rose, and every other count stays; that of a session that is stuck
--- may hide behind it
+-- a fault of the input or the output is answered only where its count rose, and every other count stays
 abbrev pub ServedCauses : Served → (source source' cable cable' sink sink' : ℕ) → Type 0
 ServedCauses (Ended end) source source' cable cable' sink sink' = (source' ≡ source) × (cable' ≡ cable) × (sink' ≡ sink)
 ServedCauses ReadFault source source' cable cable' sink sink' = Rose source source' × (cable' ≡ cable) × (sink' ≡ sink)
 ServedCauses WriteFault source source' cable cable' sink sink' = (source' ≡ source) × (cable' ≡ cable) × Rose sink sink'
-ServedCauses Stuck source source' cable cable' sink sink' = (source ≤ source') × (cable' ≡ cable) × (sink ≤ sink')
 
 -- a failed cable is answered only where its count rose, after a failed read or write too
 abbrev pub HasCauses : {X E : Type 0} → Result (Served × X) E → (source source' cable cable' sink sink' : ℕ) → Type 0

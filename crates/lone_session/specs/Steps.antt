@@ -19,16 +19,15 @@ use Rattle.client_session.specs.declared.Stop.{Stop}
 use Rattle.client_session.specs.declared.Stop.TheVariants as stops
 use Rattle.client_session.specs.declared.Stand.{Stand}
 use Rattle.client_session.specs.Seats.{most_bytes}
-use Rattle.client_session.specs.Seats as seats
 use Rattle.client_session.specs.Turns.{Turn}
 use Rattle.client_session.specs.Laws.{IsByItself}
-use Rattle.client_session.specs.Sessions.{DeskView, Serves, SessionView, Shows}
+use Rattle.client_session.specs.Sessions.{DeskView, Serves, SessionView, Shows, view_taken}
 use Rattle.client_session.specs.Stores.{IsOfLayout, SessionState}
 use Rattle.client_session.specs.Desks.{IsDesk, desk_of}
 use Rattle.lone_session.specs.declared.Served.{Served}
-use Rattle.lone_session.specs.Serving.{Closes, MayEnd, ServedCauses, ServedFrom, after_bytes}
+use Rattle.lone_session.specs.Serving.{Closes, IsAlone, MayEnd, ServedCauses, ServedFrom, after_bytes}
 
--- the session waits for bytes at the desk, with all replies given
+-- the session waits for bytes at the desk, where nobody else is, with all replies given
 pub record IsReady {C : Type 0} (layout : LayoutShape) (session : SessionState) (desk : Token (ParkedView C) (OpenView C)) (told : Option ChainState) (has_trst : Bool) : Type 0 where
   pub layout_is : IsOfLayout layout session
   pub grant : session.grant < length layout.grants
@@ -37,6 +36,7 @@ pub record IsReady {C : Type 0} (layout : LayoutShape) (session : SessionState) 
   pub whole : Told told (IsWhole layout)
   pub trst : session.view.uses_trst ≡ true → has_trst ≡ true
   pub line : is_among session.grant (waiting desk) ≡ false
+  pub alone : IsAlone session.grant desk
   pub going : session.view.stand ≡ Stand.Going
   pub given : session.view.reply ≡ []
 
@@ -47,8 +47,6 @@ pub record Reaches (layout : LayoutShape) (grant : ℕ) (view : SessionView) (ol
   pub seat : turn.seat ≡ after_bytes taken start.seat
   pub conn : turn.seat.conn ≡ start.seat.conn
   pub past : turn.seat.past ≡ start.seat.past
-  pub within : length taken ≤ seats.taken turn.seat
-  pub few : length taken ≤ most_bytes
   pub shows : Shows view false turn.seat replies
   pub serves : Serves layout (group_of layout.grants grant) grant new_desk turn
   pub itself : IsByItself grant turn
@@ -70,24 +68,33 @@ FedTo stops.Done layout grant view old_desk desk told start taken replies = Reac
 FedTo (stops.Ended end) layout grant view old_desk desk told start taken replies = Closed layout grant old_desk desk told start taken replies end × ((rest : Option (List ℕ)) → MayEnd end rest)
 FedTo stops.Waits layout grant view old_desk desk told start taken replies = ⊥
 
--- the peer was gone, and the session ended so
-abbrev pub DroppedTo : {C : Type 0} → Option End → LayoutShape → ℕ → DeskView → Token (ParkedView C) (OpenView C) → Option ChainState → Turn → (taken replies : List ℕ) → Type 0
-DroppedTo None layout grant old_desk desk told start taken replies = ⊥
-DroppedTo (Some end) layout grant old_desk desk told start taken replies = Closed layout grant old_desk desk told start taken replies end
+-- a call used all bytes, or ended the session: it does not wait
+abbrev pub NeverWaits : Stop → Type 0
+NeverWaits stops.Waits = ⊥
+NeverWaits _ = Unit {0}
 
--- bytes were taken from the input, one at least in each turn, and their replies went out
-pub record GoesOn {C : Type 0} (turns : ℕ) (layout : LayoutShape) (grant : ℕ) (view : SessionView) (left rest sent sent' : Option (List ℕ)) (old_desk : DeskView) (desk : Token (ParkedView C) (OpenView C)) (told : Option ChainState) (start : Turn) : Type 0 where
+-- where it ended the session, no drop did
+abbrev pub EndsItself : Stop → Type 0
+EndsItself (stops.Ended end) = (rest : Option (List ℕ)) → MayEnd end rest
+EndsItself _ = Unit {0}
+
+-- more bytes of the session were taken, and no more than the most
+pub record TakesMore (old new : SessionView) : Type 0 where
+  pub more : view_taken old < view_taken new
+  pub few : view_taken new ≤ most_bytes
+
+-- bytes were taken from the input, and their replies went out
+pub record GoesOn {C : Type 0} (layout : LayoutShape) (grant : ℕ) (view : SessionView) (left rest sent sent' : Option (List ℕ)) (old_desk : DeskView) (desk : Token (ParkedView C) (OpenView C)) (told : Option ChainState) (start : Turn) : Type 0 where
   pub taken : List ℕ
   pub given : List ℕ
-  pub counted : turns ≤ length taken
   pub consumed : Consumes left rest taken
   pub wrote : Appends sent sent' given
   pub reached : Reached layout grant view old_desk desk told start taken given
 
 -- a turn comes to the next, or to the end of the input's bytes
-abbrev pub TurnedTo : {C : Type 0} → Option Served → ℕ → LayoutShape → ℕ → SessionView → (left rest sent sent' : Option (List ℕ)) → DeskView → Token (ParkedView C) (OpenView C) → Option ChainState → Turn → Type 0
-TurnedTo None turns layout grant view left rest sent sent' old_desk desk told start = GoesOn turns layout grant view left rest sent sent' old_desk desk told start
-TurnedTo (Some served) turns layout grant view left rest sent sent' old_desk desk told start = ServedFrom layout grant served left rest sent sent' old_desk desk told start
+abbrev pub TurnedTo : {C : Type 0} → Option Served → LayoutShape → ℕ → SessionView → (left rest sent sent' : Option (List ℕ)) → DeskView → Token (ParkedView C) (OpenView C) → Option ChainState → Turn → Type 0
+TurnedTo None layout grant view left rest sent sent' old_desk desk told start = GoesOn layout grant view left rest sent sent' old_desk desk told start
+TurnedTo (Some served) layout grant view left rest sent sent' old_desk desk told start = ServedFrom layout grant served left rest sent sent' old_desk desk told start
 
 -- no count rose in a turn that comes to the next
 abbrev pub StepCauses : Option Served → (source source' cable cable' sink sink' : ℕ) → Type 0
