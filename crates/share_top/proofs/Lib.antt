@@ -1,8 +1,7 @@
-pub mod ShiftLaws
-pub mod AnswerLaws
-pub mod SessionLaws
-pub mod AssemblyLaws
 pub mod Printing
 pub mod HexLaws
 pub mod Lines
-pub mod CheckLaws
+pub mod SetupLaws
+pub mod SessionLaws
+pub mod PipeLaws
+pub mod CommandLaws

@@ -1,8 +1,8 @@
-pub mod Shifts
-pub mod Demo
-pub mod Commands
-pub mod Sessions
+pub mod Words
 pub mod Outcomes
 pub mod Checks
 pub mod Printed
+pub mod Setups
 pub mod CheckRuns
+pub mod Pipes
+pub mod Sessions

@@ -1,44 +1,35 @@
--- A session on its way: between two pieces of its bytes.
-use Rattle.std.specs.Prelude.{◌≡◌, ℕ, List, ◌++◌, length}
-use Rattle.std.specs.declared.option.Option.{Option}
-use Rattle.std.specs.Io.KnownBytes.{Appends, Consumes}
-use Rattle.base_types.specs.Tellings.{Both}
-use Rattle.chain_model.specs.Chains.{ChainState}
-use Rattle.chain_model.specs.Demo.{powered_demo}
-use Rattle.xvc_frame.specs.Messages.{Message}
-use Rattle.xvc_frame.specs.Frames.{FrameState, IsOpen}
-use Rattle.client_session.specs.Private.{opened}
-use Rattle.client_session.specs.Seats.{Seat}
-use Rattle.client_session.specs.Places.{Reaches}
-use Rattle.share_top.specs.Demo.{vector_length, demo_seat, AreMessages, after_messages}
-use Rattle.share_top.specs.Shifts.{uncounted}
+-- The session of a grant before it is opened, and counts as they are kept.
+use Rattle.std.specs.Prelude.{◌≡◌, ◌<◌, ◌^◌, ℕ, false, [], map, slice_get}
+use Rattle.std.specs.declared.option.Option.TheVariants.{Some}
+use Rattle.chain_model.specs.Boards.{placed}
+use Rattle.chain_model.specs.Chains.{Placed}
+use Rattle.grant_table.specs.Layouts.{GrantShape}
+use Rattle.grant_table.specs.Kept.{AllParts}
+use Rattle.scan_share.specs.Laws.{EachIsBoard}
+use Rattle.scan_share.specs.Scans.{IsWhole}
+use Rattle.client_session.specs.declared.Stand.{Stand}
+use Rattle.client_session.specs.Sessions.{Shows}
+use Rattle.client_session.specs.Stores.{IsOfLayout, SessionState}
+use Rattle.setup_read.specs.declared.setup.Setup.{Setup}
+use Rattle.share_top.specs.Pipes.{private_seat, uses_trst, whole_chain}
 
--- the session of the demo as it begins
-unfoldable pub demo_start : Seat
-demo_start = opened 0 demo_seat
+-- the session is free, and shows the grant's seat by itself
+pub record IsFreeFor (setup : Setup) (grant : ℕ) (session : SessionState) : Type 0 where
+  pub grant_is : session.grant ≡ grant
+  pub layout_is : IsOfLayout setup.layout session
+  pub free : session.view.stand ≡ Stand.Free
+  pub given : session.view.reply ≡ []
+  pub fit : session.view.spent ≡ false
+  pub trst : session.view.uses_trst ≡ uses_trst setup
+  pub shows : (shape : GrantShape) → slice_get setup.layout.grants grant ≡ Some shape → Shows session.view false (private_seat setup shape) []
 
--- the frame is that of the demo, and no message in it is whole or refused
-pub record Awaits (frame : FrameState) : Type 0 where
-  pub vector : frame.vector ≡ vector_length
-  pub frame_open : IsOpen frame
+-- each device type is that of a plan, and the chain at power-up is made of all devices and nets of the layout
+pub record IsSound (setup : Setup) : Type 0 where
+  pub parts : AllParts setup.layout.parts
+  pub parts_are : map (λ (board : Placed). board.part) (map placed setup.boards) ≡ setup.layout.parts
+  pub boards : EachIsBoard (map placed setup.boards)
+  pub chain : IsWhole setup.layout (whole_chain setup)
 
--- these bytes were taken, and all but those that are held were used: the chain made the cycles of their messages, and their replies went out
-pub record Going (taken : List ℕ) (used : ℕ) (held : List ℕ) (before after : Option ChainState) (sent sent' : Option (List ℕ)) : Type 0 where
-  pub bytes : List ℕ
-  pub messages : List Message
-  pub chain : ChainState
-  pub replies : List ℕ
-  pub given : List ℕ
-  pub taken_are : taken ≡ bytes ++ held
-  pub used_is : used ≡ length bytes
-  pub reaches : Reaches demo_start bytes chain replies
-  pub messages_are : AreMessages messages bytes
-  pub chain_is : chain ≡ after_messages messages powered_demo
-  pub wrote : Appends sent sent' given
-  pub told : Both before after (λ _ now. (uncounted now ≡ uncounted chain) × (given ≡ replies))
-
--- the same by the input before and after
-pub record IsGoing (left rest : Option (List ℕ)) (used : ℕ) (held : List ℕ) (before after : Option ChainState) (sent sent' : Option (List ℕ)) : Type 0 where
-  pub taken : List ℕ
-  pub consumed : Consumes left rest taken
-  pub going : Going taken used held before after sent sent'
+-- counts of 64 bits
+abbrev pub AreWords : (cable source sink : ℕ) → Type 0
+AreWords cable source sink = (cable < 2 ^ 64) × (source < 2 ^ 64) × (sink < 2 ^ 64)

@@ -1,7 +1,6 @@
 //! The commands of the server.
 #![tactic(auto)]
 
-mod answer;
 mod check;
 mod command;
 mod line;
@@ -9,12 +8,15 @@ mod outcome;
 mod pipe;
 mod print;
 mod refusal;
-mod session;
-mod shift;
+mod setup;
+mod tell;
+mod words;
 
 pub use command::{RanLocal, local_command};
 
 #[cfg(test)]
 mod check_tests;
 #[cfg(test)]
-mod tests;
+mod pipe_tests;
+#[cfg(test)]
+mod test_files;

@@ -1,5 +1,5 @@
 // A line of the output, put together without memory.
-ghost use Rattle.std.specs.Prelude.{◌≡◌, ◌≤◌, ◌<◌, ◌+◌, ◌*◌, ◌++◌, ◌^◌, length};
+ghost use Rattle.std.specs.Prelude.{◌≡◌, ◌≤◌, ◌<◌, ◌+◌, ◌*◌, ◌++◌, ◌∷◌, [], length};
 ghost use Rattle.std.specs.Fmt.{decimal};
 ghost use Rattle.share_top.specs.Checks.{hex_digit, hex_digits, without_zeros, hex};
 
@@ -27,6 +27,27 @@ pub fn push_number(line: &mut Line, text: &[u8], number: u64)
 {
     push_text(line, text);
     push_text(line, itoa::Buffer::new().format(number).as_bytes());
+}
+
+/// A line of this text.
+pub fn text_line(text: &[u8]) -> Line
+    requires { length text.now ≤ 1024 }
+    ensures { result.items ≡ text.now }
+{
+    let mut line = Line::new();
+    push_text(&mut line, text);
+    line
+}
+
+/// A line of a text and a number.
+pub fn number_line(text: &[u8], number: u64) -> Line
+    requires { length text.now ≤ 1000 }
+    ensures { result.items ≡ text.now ++ decimal number ++ 10 ∷ [] }
+{
+    let mut line = Line::new();
+    push_number(&mut line, text, number);
+    push_text(&mut line, b"\n");
+    line
 }
 
 // A digit of base 16.

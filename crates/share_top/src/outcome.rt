@@ -1,106 +1,110 @@
-// How a command ends.
-ghost use Rattle.std.specs.Prelude.{◌≡◌, ◌≤◌, ◌+◌, ◌++◌, length};
-ghost use Rattle.share_top.specs.Outcomes.{status_of, line_of, Tells};
-ghost use Rattle.share_top.specs.declared.outcome.Outcome.TheVariants.{Refused};
+// What `pipe` comes to.
+ghost use Rattle.std.specs.Prelude.{◌≡◌};
+ghost use Rattle.share_top.specs.Pipes as pipes;
 
-use arrayvec::ArrayVec;
-use ports::{Sink, write_all};
+use crate::line::{Line, number_line, push_number, push_text, text_line};
+use crate::setup::NoSetup;
+use crate::tell::WRITE_FAULT;
+use client_session::End;
+use lone_session::Served;
 
-/// The status where a write failed.
-const WRITE_FAULT: u8 = 5;
+/// The cause where the input ends within a message.
+const CUT: u8 = 4;
 
-/// How a command ends, before its last line is written.
+/// What `pipe` comes to, before its last line is written.
 #[derive(Clone, Copy, Debug, PartialEq, Eq)]
 pub enum Outcome {
-    /// The input ended between two messages.
-    Done,
-    /// The bytes are refused at a place of the session, for a cause: 1 no word of Xilinx Virtual Cable goes on so, 2 a `shift:`
-    /// longer than the vector length, 4 the input ended within a message.
-    Refused { at: u64, cause: u8 },
-    /// The words are no command.
-    Words,
-    /// The source failed.
-    ReadFault,
-    /// The sink failed.
-    WriteFault,
+    /// There is no setup.
+    NoSetup(NoSetup),
+    /// The setup has version 2, and the cable has no TRST.
+    NoTrst,
+    /// The setup has no grant of this number.
+    NoGrant(u8),
+    /// Memory was wanting, before the first byte of the input.
+    Memory,
     /// The cable failed.
     CableFault,
-    /// The session had the most bytes.
-    Long,
-    /// Memory was wanting.
-    Memory,
+    /// A session of the grant was served to its end.
+    Served(Served),
 }
 
 impl Outcome {
-    fn status(self) -> u8
-        ensures { result ≡ status_of self }
+    /// The status: that of how the session ended, or of why there was none.
+    pub fn status(self) -> u8
+        ensures { result ≡ pipes.status_of self }
     {
         match self {
-            Outcome::Done => 0,
-            Outcome::Refused { .. } => 1,
-            Outcome::Words => 2,
-            Outcome::ReadFault => 4,
-            Outcome::WriteFault => WRITE_FAULT,
-            Outcome::CableFault => 7,
-            Outcome::Long => 8,
+            Outcome::NoSetup(none) => none.status(),
+            Outcome::NoTrst | Outcome::NoGrant(_) => 3,
             Outcome::Memory => 9,
+            Outcome::CableFault => 7,
+            Outcome::Served(served) => served_status(served),
         }
     }
 
-    // The last line.
-    fn line(self) -> ArrayVec<u8, 40>
-        ensures { result.items ≡ line_of self }
+    /// The last line, which stands behind the replies; no bytes where the session ended well, or the sink failed.
+    pub fn line(self) -> Line
+        ensures { result.items ≡ pipes.line_of self }
     {
         match self {
-            Outcome::Done => ArrayVec::new(),
-            Outcome::Refused { at, cause } => refused_line(at, cause),
-            Outcome::Words => line_from(b"words\n"),
-            Outcome::ReadFault => line_from(b"read fault\n"),
-            Outcome::WriteFault => ArrayVec::new(),
-            Outcome::CableFault => line_from(b"cable fault\n"),
-            Outcome::Long => line_from(b"too long\n"),
-            Outcome::Memory => line_from(b"memory\n"),
+            Outcome::NoSetup(none) => none.line(),
+            Outcome::NoTrst => text_line(b"trst\n"),
+            Outcome::NoGrant(number) => number_line(b"grant ", u64::from(number)),
+            Outcome::Memory => text_line(b"memory\n"),
+            Outcome::CableFault => text_line(b"cable fault\n"),
+            Outcome::Served(served) => served_line(served),
         }
     }
 }
 
-fn line_from(text: &[u8]) -> ArrayVec<u8, 40>
-    requires { length text.now ≤ 40 }
-    ensures { result.items ≡ text.now }
+fn served_status(served: Served) -> u8
+    ensures { result ≡ pipes.served_status served }
 {
-    let mut line = ArrayVec::new();
-    push(&mut line, text);
-    line
-}
-
-fn push(line: &mut ArrayVec<u8, 40>, piece: &[u8])
-    requires { length line.old.items + length piece.now ≤ 40 }
-    ensures { line.new.items ≡ line.old.items ++ piece.now }
-{
-    match line.try_extend_from_slice(piece) {
-        Ok(()) => (),
-        Err(_) => unreachable!(),
+    match served {
+        Served::Ended(end) => end_status(end),
+        Served::ReadFault => 4,
+        Served::WriteFault => WRITE_FAULT,
     }
 }
 
-// The line of a refusal: its place and its cause.
-fn refused_line(at: u64, cause: u8) -> ArrayVec<u8, 40>
-    ensures { result.items ≡ line_of (Refused at cause) }
+fn served_line(served: Served) -> Line
+    ensures { result.items ≡ pipes.served_line served }
 {
-    let mut line = line_from(b"refused ");
-    push(&mut line, itoa::Buffer::new().format(at).as_bytes());
-    push(&mut line, b" ");
-    push(&mut line, itoa::Buffer::new().format(cause).as_bytes());
-    push(&mut line, b"\n");
-    line
+    match served {
+        Served::Ended(end) => end_line(end),
+        Served::ReadFault => text_line(b"read fault\n"),
+        Served::WriteFault => Line::new(),
+    }
 }
 
-/// Writes the last line of the outcome, and answers its status; or 5, where the sink failed.
-pub fn tell<O: Sink>(out: &mut O, outcome: Outcome) -> u8
-    ensures told { Tells outcome result (O.sent out.old) (O.sent out.new) (O.fault_count out.old) (O.fault_count out.new) }
+fn end_status(end: End) -> u8
+    ensures { result ≡ pipes.end_status end }
 {
-    match write_all(out, &outcome.line()) {
-        Ok(()) => outcome.status(),
-        Err(_) => WRITE_FAULT,
+    match end {
+        End::Quit(_) | End::Gone(_) => 0,
+        End::Refused(..) | End::Cut(_) => 1,
+        End::Long(_) => 8,
     }
+}
+
+fn end_line(end: End) -> Line
+    ensures { result.items ≡ pipes.end_line end }
+{
+    match end {
+        End::Quit(_) | End::Gone(_) => Line::new(),
+        End::Refused(at, cause) => refused_line(at, cause),
+        End::Cut(at) => refused_line(at, CUT),
+        End::Long(_) => text_line(b"too long\n"),
+    }
+}
+
+// The line of bytes that are refused: their place and the cause.
+fn refused_line(at: u64, cause: u8) -> Line
+    ensures { result.items ≡ pipes.refused_line at cause }
+{
+    let mut line = Line::new();
+    push_number(&mut line, b"refused ", at);
+    push_number(&mut line, b" ", u64::from(cause));
+    push_text(&mut line, b"\n");
+    line
 }

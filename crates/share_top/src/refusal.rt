@@ -1,11 +1,10 @@
 // The last line where a setup is refused, and the status.
-ghost use Rattle.std.specs.Prelude.{◌≡◌, ◌≤◌, ◌+◌, ◌++◌, [], ◌∷◌, length};
-ghost use Rattle.std.specs.Fmt.{decimal};
+ghost use Rattle.std.specs.Prelude.{◌≡◌, ◌≤◌, ◌+◌, ◌++◌, length};
 ghost use Rattle.setup_read.specs.declared.setup.SetupRefusal.TheVariants.{Plain, Layout, Bsdl};
 ghost use Rattle.share_top.specs.Checks as checks;
 ghost use Rattle.share_top.specs.Checks.{place_text};
 
-use crate::line::{Line, push_number, push_text};
+use crate::line::{Line, number_line, push_number, push_text, text_line};
 use grant_table::LayoutRefusal;
 use setup_document::Place;
 use setup_read::SetupRefusal;
@@ -36,27 +35,6 @@ pub fn refusal_line(refusal: SetupRefusal) -> Line
         SetupRefusal::Fault => text_line(b"read fault\n"),
         SetupRefusal::Memory => text_line(b"memory\n"),
     }
-}
-
-/// A line of this text.
-pub fn text_line(text: &[u8]) -> Line
-    requires { length text.now ≤ 1024 }
-    ensures { result.items ≡ text.now }
-{
-    let mut line = Line::new();
-    push_text(&mut line, text);
-    line
-}
-
-// A line of a text and a number.
-fn number_line(text: &[u8], number: u64) -> Line
-    requires { length text.now ≤ 1000 }
-    ensures { result.items ≡ text.now ++ decimal number ++ 10 ∷ [] }
-{
-    let mut line = Line::new();
-    push_number(&mut line, text, number);
-    push_text(&mut line, b"\n");
-    line
 }
 
 fn push_place(line: &mut Line, place: Place)
