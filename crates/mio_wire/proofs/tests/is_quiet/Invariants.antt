@@ -1,0 +1,6 @@
+use Rattle.std.proofs.Common.{◌≡◌, true, false}
+use Rattle.mio_wire.specs.Doors.{door_of}
+use Rattle.mio_wire.proofs.tests.is_quiet.Given as goal
+
+abbrev pub invariant-loop : goal.invariant-loop
+invariant-loop l = ((door_of l.wire.door).up ≡ true) × ((door_of l.wire.door).over ≡ false)

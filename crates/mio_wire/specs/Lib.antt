@@ -1,0 +1,4 @@
+pub mod Doors
+pub mod Polls
+pub mod Results
+pub mod Tables
