@@ -1,11 +1,17 @@
 -- What a table of sessions shows of its parts.
-use Rattle.std.specs.Prelude.{ℕ, ◌≡◌, ◌≤◌, Bool, true, false, List, [], ◌∷◌, map}
+use Rattle.std.specs.Prelude.{ℕ, ◌≡◌, ◌≤◌, Bool, true, false, List, [], map}
+use Rattle.std.proofs.lemmas.Bool.{true≢false}
 use Rattle.std.specs.declared.option.Option.{Option}
 use Rattle.std.specs.declared.option.Option.TheVariants.{None, Some}
 use Rattle.chain_model.specs.Chains.{ChainState}
+use Rattle.std.specs.declared.result.Result.{Result}
+use Rattle.std.specs.declared.result.Result.TheVariants.{Ok, Err}
+use Rattle.std.specs.Prelude.{IsOk, IsErr}
+use Rattle.scan_share.specs.Views.{ParkedView, OpenView, BrokenView}
+use Rattle.chain_token.specs.declared.token.Token.{Token}
 use Rattle.chain_token.specs.Tokens.{holder, waiting}
 use Rattle.grant_table.specs.Layouts.{LayoutShape}
-use Rattle.scan_share.specs.Scans.{IsWhole}
+use Rattle.scan_share.specs.Scans.{IsParked}
 use Rattle.client_session.specs.Desks.{cable_of}
 use Rattle.plays.specs.Plays.{Setting, SessionEnd, start}
 use Rattle.plays.specs.Alone.{Holds}
@@ -29,7 +35,7 @@ is_broken _ = false
 
 -- the cable
 abbrev pub cable_in : {C : Type 0} → (slot : Slot C) → is_out slot ≡ false → C
-cable_in Out there = absurd (cc there)
+cable_in Out there = absurd (true≢false there)
 cable_in (Free desk) there = cable_of desk.side
 cable_in (Broken broken) there = broken.cable
 
@@ -60,20 +66,26 @@ hub_of seats slot = record {
   holder = holder_in slot;
   waiting = waiting_in slot;
   joins = seats.joins;
-  ready = map (λ seat. seat.ready) seats.list.items;
+  ready = seats.ready.items;
   ended = map session_end seats.ended.items;
   broken = is_broken slot;
 }
 
--- the chain is as it is before the first step of a play: all contents are those of power-up, and it made six cycles at most
+-- the chain is as it is before the first step of a play: at rest, all contents are those of power-up, and it made six cycles at most
 pub record IsFresh (setting : Setting) (layout : LayoutShape) (vector : ℕ) (uses_trst : Bool) (chain : ChainState) : Type 0 where
   pub layout_is : layout ≡ setting.layout
   pub vector_is : vector ≡ setting.vector
   pub trst_is : uses_trst ≡ setting.uses_trst
   pub fit : PartsFit setting.layout.parts setting.pins
+  pub parked : IsParked chain
   pub holds : Holds setting chain (start setting)
   pub made : chain.made ≤ 6
 
 abbrev pub FreshOn : Setting → LayoutShape → ℕ → Bool → Option ChainState → Type 0
 FreshOn setting layout vector uses_trst None = ⊥
 FreshOn setting layout vector uses_trst (Some chain) = IsFresh setting layout vector uses_trst chain
+
+-- the desk lies in the slot, or what is left of it where the cable failed
+abbrev pub Settles : {C E : Type 0} → Result (Token (ParkedView C) (OpenView C)) (BrokenView C) → Slot C → Result (Unit {0}) E → Type 0
+Settles (Ok desk) slot result = (slot ≡ Free desk) × IsOk result
+Settles (Err broken) slot result = (slot ≡ Broken broken) × IsErr result

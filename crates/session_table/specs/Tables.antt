@@ -14,9 +14,10 @@ use Rattle.client_session.specs.declared.Stand.{Stand}
 use Rattle.client_session.specs.Seats.{Seat, IsFinished, finished, most_bytes, opens_next, replies_now, taken}
 use Rattle.client_session.specs.Private.{opened}
 use Rattle.client_session.specs.Paces.{IsSeatOver}
-use Rattle.client_session.specs.Sessions.{IsPrefix, SessionView, Shows, is_in_line, is_leaving, is_taken}
+use Rattle.client_session.specs.Sessions.{IsPrefix, Shows, is_in_line, is_leaving, is_taken}
 use Rattle.plays.specs.Plays.{Setting, Play, SeatChange, SessionEnd, seat_at, with_seat, is_waiting, is_holder, next_in_line, after_change}
 use Rattle.plays.specs.Alone.{Holds}
+use Rattle.plays.specs.Outcomes.{OnceEach}
 use Rattle.plays.specs.Schedule.{went_on, with_ready}
 use Rattle.plays.specs.Stands.{SeatView, HubView, ChainStands}
 
@@ -73,16 +74,23 @@ pub record IsFew (seat : Seat) : Type 0 where
   pub acts : length seat.acts ≤ 32 * seat.used
   pub bytes : taken seat ≤ most_bytes
 
--- what holds of a play between two steps: each seat is over its group's chain, with its protocol's edges left; who waits is about to open a
--- scan, and nobody else has anything left to do; a grant holds the chain exactly where its seat has a scan open; and nobody waits for a chain
--- that nobody holds
-pub record IsBetweenSteps (setting : Setting) (play : Play) : Type 0 where
+-- what holds of a play at any time: each seat is over its group's chain, with its protocol's edges left; and a grant holds the chain exactly where
+-- its seat has a scan open
+pub record IsUnderWay (setting : Setting) (play : Play) : Type 0 where
   pub seats : length play.seats ≡ length setting.layout.grants
   pub over : (grant : ℕ) → IsSeatOver (seat_at play grant).protocol (entries_at setting.layout.parts (group_of setting.layout.grants grant)) (nets_within (group_of setting.layout.grants grant) setting.layout.nets) (seat_at play grant)
   pub few : (grant : ℕ) → IsFew (seat_at play grant)
+  pub scans : (grant : ℕ) → is_holder play.holder grant ≡ (seat_at play grant).chain.scan_open
+
+-- who waits is about to open a scan, and nobody else has anything left to do
+pub record IsCalm (play : Play) : Type 0 where
   pub waits : (grant : ℕ) → is_waiting play grant ≡ true → opens_next (seat_at play grant) ≡ true
   pub rests : (grant : ℕ) → IsFinished (seat_at play grant) ⊎ (is_waiting play grant ≡ true)
-  pub scans : (grant : ℕ) → is_holder play.holder grant ≡ (seat_at play grant).chain.scan_open
+
+-- a play between two steps: nobody waits for a chain that nobody holds
+pub record IsBetweenSteps (setting : Setting) (play : Play) : Type 0 where
+  pub under_way : IsUnderWay setting play
+  pub calm : IsCalm play
   pub none : next_in_line play.holder play.waiting ≡ None
 
 -- ---- the table stands for a play
@@ -167,6 +175,7 @@ pub record WentOn (grant : ℕ) (gone : Bool) (old new : HubView) : Type 0 where
   pub ends : List SessionEnd
   pub ended : new.ended ≡ old.ended ++ ends
   pub each : EachHasEnded old new ends
+  pub once : OnceEach (map (λ ended. ended.grant) ends)
 
 -- ---- a session begins
 

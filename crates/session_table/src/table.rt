@@ -1,5 +1,5 @@
 // The sessions of all grants, with the desk.
-ghost use Rattle.std.specs.Prelude.{◌≡◌, ◌≢◌, ◌≤◌, ◌<◌, ◌++◌, ◌×◌, ℕ, List, Bool, [], ◌∷◌, true, false, length, map, take, drop, slice_set, IfOk, IfErr, OnOk, OnErr};
+ghost use Rattle.std.specs.Prelude.{◌≡◌, ◌≢◌, ◌≤◌, ◌<◌, ◌++◌, ℕ, List, Bool, [], ◌∷◌, true, false, length, map, take, drop, slice_set, IfOk, IfErr, OnOk, OnErr, if◌then◌else◌};
 ghost use Rattle.std.specs.List.{slice_index_or};
 ghost use Rattle.std.specs.declared.option.Option.{Option};
 ghost use Rattle.std.specs.declared.option.Option.TheVariants.{None, Some};
@@ -10,9 +10,9 @@ ghost use Rattle.scan_share.specs.Scans.{IsWhole};
 ghost use Rattle.client_session.specs.declared.Stand.TheVariants.{Free, Going};
 ghost use Rattle.client_session.specs.Private.{opened, received};
 ghost use Rattle.client_session.specs.Sessions.{is_here, is_taken, view_wants};
-ghost use Rattle.plays.specs.Plays.{Setting, Play, seat_at, start};
+ghost use Rattle.plays.specs.Plays.{Setting, Play, next_in_line, seat_at, start};
 ghost use Rattle.session_table.specs.Tables.{FollowsOpening, FollowsPlays, KeepsTable, RepliesFronts, StandsOn, WentOn, reply_at, stand_at, view_at, with_given, with_reply};
-ghost use Rattle.session_table.specs.Shown.{FreshOn, is_out, session_end};
+ghost use Rattle.session_table.specs.Shown.{FreshOn, Settles, is_out, session_end};
 
 use crate::seats::Seats;
 use crate::{CableFailed, Ended};
@@ -44,9 +44,12 @@ pub struct SessionTable<C: Cable> {
 
 impl<C: Cable> Model for SessionTable<C> {
     ghost use Rattle.session_table.specs.Tables.{TableView};
+    ghost use Rattle.session_table.specs.Fits.{TableFits};
     ghost use Rattle.session_table.specs.Shown.{cable_in, hub_of};
 
     ghost Value = { TableView C };
+
+    ghost invariant = { λ t. TableFits t.seats t.slot (λ cable. C.chain cable) (λ cable. C.trst cable) };
 
     ghost view = { λ t. record { hub = hub_of t.seats t.slot; cable = cable_in t.slot t.there } };
 }
@@ -104,6 +107,17 @@ impl<C: Cable> SessionTable<C> {
         ensures { result ≡ self.now.hub.joins }
     {
         self.seats.joins()
+    }
+
+    /// Who goes on next: the first that waits for a chain that nobody holds. Over a cable that tells its chain, nobody does between two calls.
+    pub fn next(&self) -> Option<usize>
+        ensures { result ≡ next_in_line self.now.hub.holder self.now.hub.waiting }
+    {
+        match &self.slot {
+            Slot::Free(desk) => desk.next(),
+            Slot::Broken(_) => None,
+            Slot::Out => None,
+        }
     }
 
     /// The sessions that ended since `forget_ended`, in order.
@@ -232,7 +246,7 @@ impl<C: Cable> SessionTable<C> {
     }
 
     /// The peer of a grant's session is gone: the session ends, or where it waits for the chain it is leaving. Then the chain is handed on as in
-    /// `took`.
+    /// `took`. Where the grant is first in line of a chain that nobody holds, nothing happens; over a cable that tells its chain, this never is so.
     ///
     /// The error comes only where the cable's count of faults rose in the call. The replies are then a front of the private ones.
     pub fn peer_gone(&mut self, grant: usize) -> Result<(), CableFailed>
@@ -242,7 +256,7 @@ impl<C: Cable> SessionTable<C> {
         ensures kept { KeepsTable self.old.hub self.new.hub }
         ensures follows { OnOk result (FollowsPlays self.old.hub self.new.hub (C.chain self.old.cable) (C.chain self.new.cable) (λ play. record { grant = grant; seat = record (seat_at play grant) { gone = true } })) }
         ensures failed { OnErr result (RepliesFronts self.old.hub self.new.hub (C.chain self.old.cable) (λ play. record { grant = grant; seat = record (seat_at play grant) { gone = true } })) }
-        ensures went { OnOk result (WentOn grant true self.old.hub self.new.hub) }
+        ensures went { next_in_line self.old.hub.holder self.old.hub.waiting ≢ Some grant → OnOk result (WentOn grant true self.old.hub self.new.hub) }
         ensures fit { OnOk result (self.new.hub.broken ≡ false) }
         ensures broken { OnErr result (self.new.hub.broken ≡ true) }
         ensures mark { C.mark self.new.cable ≡ C.mark self.old.cable }
@@ -273,7 +287,10 @@ impl<C: Cable> SessionTable<C> {
 }
 
 // Puts the desk back, or what is left of it.
-fn settle<C: Cable>(slot: &mut Slot<C>, desk: Result<Desk<C>, Broken<C>>) -> Result<(), CableFailed> {
+fn settle<C: Cable>(slot: &mut Slot<C>, desk: Result<Desk<C>, Broken<C>>) -> Result<(), CableFailed>
+    requires { is_out slot.old ≡ true }
+    ensures { Settles desk slot.new result }
+{
     match desk {
         Ok(desk) => {
             put(slot, Slot::Free(desk));

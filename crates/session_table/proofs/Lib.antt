@@ -1,0 +1,13 @@
+pub mod Entries
+pub mod Contents
+pub mod TurnLaws
+pub mod Lifting
+pub mod Playing
+pub mod Handing
+pub mod Passing
+pub mod Moved
+pub mod Telling
+pub mod Replied
+pub mod Opening
+pub mod Opened
+pub mod Starting
