@@ -1,0 +1,27 @@
+use Rattle.std.proofs.Common.{arith, sym, subst, []}
+use Rattle.base_types.specs.Tellings.{Told}
+use Rattle.hub.specs.Served.{ConnsAreOpen}
+use Rattle.hub.proofs.Places.{admitted_below}
+use Rattle.hub.proofs.Beginning.{new_can, told_begun, turned_away}
+use Rattle.hub.proofs.Shutting.{away_shut}
+use Rattle.hub.proofs.OnTheWire.{known_can, shut_only}
+use Rattle.hub.proofs.sessions.Sessions.admit.Goals as goal
+
+pub begin-requires-clause-grant : goal.begin-requires-clause-grant
+begin-requires-clause-grant g c = omega (arith, c.requires.whole.seats, admitted_below c.args.self.now.table.hub c.args.port c.in-Some.grant (sym c.in-Some.ensures))
+
+pub shut-requires : goal.shut-requires
+shut-requires g c = record { «open» = new_can c.args.conn c.args.port c.args.self.now.table.hub _ c.requires.opens }
+
+pub returns-in-Some-clause-conns : goal.returns-in-Some-clause-conns
+returns-in-Some-clause-conns g c = subst (λ gone. Told (g.W.Wire.told c.args.wire.now) (ConnsAreOpen c.begin.new.self.table.hub gone [])) (sym c.begin.ensures.gone)
+    (told_begun c.in-Some.grant c.args.conn c.args.port c.args.self.now.table.hub c.begin.new.self.table.hub c.args.self.now.gone.items _ (omega (arith, c.requires.whole.flags, admitted_below c.args.self.now.table.hub c.args.port c.in-Some.grant (sym c.in-Some.ensures))) c.begin.ensures.begun c.requires.opens c.requires.conns)
+
+pub returns-in-None-clause-conns : goal.returns-in-None-clause-conns
+returns-in-None-clause-conns g c = turned_away c.args.conn c.args.port c.args.self.now.table.hub c.args.self.now.gone.items _ _ c.requires.opens c.requires.conns c.shut.ensures.told
+
+pub returns-in-None-clause-shuts : goal.returns-in-None-clause-shuts
+returns-in-None-clause-shuts g c = away_shut c.args.conn c.args.port c.args.self.now.table.hub _ _ c.in-None.ensures c.shut.ensures.told
+
+pub returns-in-None-clause-known : goal.returns-in-None-clause-known
+returns-in-None-clause-known g c = known_can c.args.conn _ _ (new_can c.args.conn c.args.port c.args.self.now.table.hub _ c.requires.opens) (shut_only c.args.conn _ _ c.shut.ensures.told)

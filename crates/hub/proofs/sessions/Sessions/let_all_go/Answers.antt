@@ -1,0 +1,37 @@
+use Rattle.std.proofs.Common.{◌≡◌, ℕ, Bool, ◌<◌, ◌+◌, ◌∷◌, ◌∙◌, ap, sym, subst, arith, length, drop, List}
+use Rattle.plays.specs.Plays.{SessionEnd}
+use Rattle.session_table.specs.Tables.{TableView}
+use Rattle.session_table.specs.Shown.{session_end}
+use Rattle.hub.specs.Served.{ready_as}
+use Rattle.hub.proofs.Shutting.{due_more, due_done}
+use Rattle.hub.proofs.SeatLists.{lets_more, nothing_left}
+use Rattle.hub.proofs.OnTheWire.{known_then, first_there, first_open, rest_left, rest_open}
+use Rattle.hub.proofs.sessions.Sessions.let_all_go.Goals as goal
+
+there : {C : Type 0} (first now : TableView C) (at : ℕ) (flags : List Bool) (ended : SessionEnd) → now ≡ ready_as flags first → drop at now.hub.ended ≡ ended ∷ drop (at + 1) now.hub.ended
+    → drop at first.hub.ended ≡ ended ∷ drop (at + 1) first.hub.ended
+there first now at flags ended is at_now = subst (λ list. drop at list ≡ ended ∷ drop (at + 1) list) (ap (λ table. table.hub.ended) is) at_now
+
+pub let_go-requires-clause-grant : goal.let_go-requires-clause-grant
+let_go-requires-clause-grant g c = subst (λ table. c.ended_at-ended.result.grant < length table.hub.seats) (sym c.loop-at.invariant.table.table) (first_there c.args.self.now.table.hub _ _ (session_end c.ended_at-ended.result) (there c.args.self.now.table c.loop-at.self.table c.loop-at.at _ (session_end c.ended_at-ended.result) c.loop-at.invariant.table.table c.ended_at-ended.ensures) c.loop-at.invariant.left)
+
+pub let_go-requires-clause-flags : goal.let_go-requires-clause-flags
+let_go-requires-clause-flags g c = subst (λ gone. c.ended_at-ended.result.grant < length gone.items) (sym c.loop-at.invariant.gone) (omega (arith, c.requires.flags.flags, c.requires.flags.seats, first_there c.args.self.now.table.hub _ _ (session_end c.ended_at-ended.result) (there c.args.self.now.table c.loop-at.self.table c.loop-at.at _ (session_end c.ended_at-ended.result) c.loop-at.invariant.table.table c.ended_at-ended.ensures) c.loop-at.invariant.left))
+
+pub let_go-requires-clause-open : goal.let_go-requires-clause-open
+let_go-requires-clause-open g c = rw c.loop-at.invariant.gone (first_open c.args.self.now.table.hub c.args.self.now.gone.items _ _ (session_end c.ended_at-ended.result) _ (there c.args.self.now.table c.loop-at.self.table c.loop-at.at _ (session_end c.ended_at-ended.result) c.loop-at.invariant.table.table c.ended_at-ended.ensures) c.loop-at.invariant.left c.loop-at.invariant.conns)
+
+pub loop-at-preserved : goal.loop-at-preserved
+loop-at-preserved g c = record {
+  table = lets_more c.args.self.now.table c.loop-at.self.table c.let_go.new.self.table _ c.loop-at.at (session_end c.ended_at-ended.result) c.ended_at-ended.ensures c.loop-at.invariant.table c.let_go.ensures.ready;
+  gone = c.let_go.ensures.gone ∙ c.loop-at.invariant.gone;
+  left = rest_left c.args.self.now.table.hub _ _ (session_end c.ended_at-ended.result) (there c.args.self.now.table c.loop-at.self.table c.loop-at.at _ (session_end c.ended_at-ended.result) c.loop-at.invariant.table.table c.ended_at-ended.ensures) c.loop-at.invariant.left;
+  conns = rest_open c.args.self.now.table.hub c.args.self.now.gone.items _ _ (session_end c.ended_at-ended.result) _ _ (there c.args.self.now.table c.loop-at.self.table c.loop-at.at _ (session_end c.ended_at-ended.result) c.loop-at.invariant.table.table c.ended_at-ended.ensures) c.loop-at.invariant.left c.loop-at.invariant.conns c.let_go.ensures.only;
+  due = due_more (drop c.args.earlier c.args.self.now.table.hub.ended) _ _ (session_end c.ended_at-ended.result) _ _ _ (there c.args.self.now.table c.loop-at.self.table c.loop-at.at _ (session_end c.ended_at-ended.result) c.loop-at.invariant.table.table c.ended_at-ended.ensures) c.loop-at.invariant.due c.let_go.ensures.shuts;
+  known = known_then _ _ _ c.loop-at.invariant.known c.let_go.ensures.known;
+  door = c.let_go.ensures.door ∙ c.loop-at.invariant.door;
+  faults = c.let_go.ensures.faults ∙ c.loop-at.invariant.faults;
+}
+
+pub returns-clause-shuts : goal.returns-clause-shuts
+returns-clause-shuts g c = due_done (drop c.args.earlier c.args.self.now.table.hub.ended) _ _ _ (nothing_left c.args.self.now.table.hub.ended c.loop-at.at (omega (arith, c.ended_count-at-end.ensures))) c.loop-at.invariant.due

@@ -1,0 +1,23 @@
+use Rattle.std.proofs.Common.{◌∙◌}
+use Rattle.hub.proofs.OnTheWire.{known_then}
+use Rattle.hub.proofs.Shutting.{shuts_then}
+use Rattle.hub.proofs.sessions.Sessions.rest.Goals as goal
+
+pub loop-grant-preserved : goal.loop-grant-preserved
+loop-grant-preserved g c = record {
+  whole = c.in_ok-serve_ready.ensures.whole;
+  made = record {
+    layout = c.in_ok-serve_ready.ensures.made.layout ∙ c.loop-grant.invariant.made.layout;
+    vector = c.in_ok-serve_ready.ensures.made.vector ∙ c.loop-grant.invariant.made.vector;
+    trst = c.in_ok-serve_ready.ensures.made.trst ∙ c.loop-grant.invariant.made.trst;
+  };
+  calm = c.in_ok-serve_ready.ensures.calm;
+  conns = c.in_ok-serve_ready.ensures.conns;
+  shuts = shuts_then _ c.loop-grant.self.table.hub.ended _ _ _ _ c.loop-grant.invariant.shuts c.in_ok-serve_ready.ensures.shuts;
+  known = known_then _ _ _ c.loop-grant.invariant.known c.in_ok-serve_ready.ensures.known;
+  door = c.in_ok-serve_ready.ensures.door ∙ c.loop-grant.invariant.door;
+  wire_faults = c.in_ok-serve_ready.ensures.faults ∙ c.loop-grant.invariant.wire_faults;
+  mark = c.in_ok-serve_ready.ensures.mark ∙ c.loop-grant.invariant.mark;
+  trst = c.in_ok-serve_ready.ensures.trst ∙ c.loop-grant.invariant.trst;
+  faults = c.in_ok-serve_ready.ensures.cause.kept ∙ c.loop-grant.invariant.faults;
+}

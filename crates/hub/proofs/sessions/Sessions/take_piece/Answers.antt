@@ -1,0 +1,32 @@
+use Rattle.std.proofs.Common.{arith, ap, take}
+use Rattle.wire_port.specs.Offers.{Answer}
+use Rattle.client_session.specs.Sessions.{is_here, is_taken}
+use Rattle.hub.proofs.AfterCalls.{here_is_open}
+use Rattle.hub.proofs.OnTheWire.{took_bytes, take_lost}
+use Rattle.hub.proofs.Shutting.{take_shuts_none, shuts_then_ok}
+use Rattle.hub.specs.Served.{is_gone}
+use Rattle.hub.proofs.OnTheWire.{in_use_open, known_open, known_then_ok, taken_only}
+use Rattle.hub.proofs.sessions.Sessions.take_piece.Goals as goal
+
+pub take-requires-clause-open : goal.take-requires-clause-open
+take-requires-clause-open g c = here_is_open c.args.self.now.table.hub c.args.self.now.gone.items c.args.grant c.args.conn _ c.requires.calm (ap is_here c.requires.going) c.requires.conn c.requires.conns
+
+pub use_bytes-requires-clause-conns : goal.use_bytes-requires-clause-conns
+use_bytes-requires-clause-conns g c = took_bytes c.args.self.now.table.hub c.args.self.now.gone.items c.args.conn _ _ _ c.requires.conns c.in-Bytes.ensures.told
+
+pub lose-requires-clause-conns : goal.lose-requires-clause-conns
+lose-requires-clause-conns g c = take_lost c.args.self.now.table.hub c.args.self.now.gone.items c.args.grant c.args.conn _ _ (omega (arith, c.requires.whole.flags, c.requires.whole.seats, c.requires.grant)) c.requires.conn (ap is_taken c.requires.going) c.requires.conns c.in-Gone.ensures.told
+
+pub returns-in-Bytes-clause-shuts : goal.returns-in-Bytes-clause-shuts
+returns-in-Bytes-clause-shuts g c = shuts_then_ok _ c.args.self.now.table.hub.ended _ _ _ _ _ (take_shuts_none c.args.conn (Answer.Bytes (take c.in-Bytes.count c.take.new.buf)) c.args.self.now.table.hub.ended _ _ c.in-Bytes.ensures.told) c.use_bytes.ensures.shuts
+
+pub returns-in-Gone-clause-shuts : goal.returns-in-Gone-clause-shuts
+returns-in-Gone-clause-shuts g c = shuts_then_ok _ c.args.self.now.table.hub.ended _ _ _ _ _ (take_shuts_none c.args.conn Answer.Gone c.args.self.now.table.hub.ended _ _ c.in-Gone.ensures.told) c.lose.ensures.shuts
+
+pub returns-in-Bytes-clause-known : goal.returns-in-Bytes-clause-known
+returns-in-Bytes-clause-known g c = known_then_ok _ _ _ _ (known_open c.args.conn (is_gone c.args.self.now.gone.items c.args.grant) _ _ (in_use_open c.args.self.now.table.hub c.args.self.now.gone.items c.args.grant c.args.conn _ (ap is_taken c.requires.going) c.requires.conn c.requires.conns)
+    (taken_only c.args.conn (Answer.Bytes (take c.in-Bytes.count c.take.new.buf)) _ _ c.in-Bytes.ensures.told)) c.use_bytes.ensures.known
+
+pub returns-in-Gone-clause-known : goal.returns-in-Gone-clause-known
+returns-in-Gone-clause-known g c = known_then_ok _ _ _ _ (known_open c.args.conn (is_gone c.args.self.now.gone.items c.args.grant) _ _ (in_use_open c.args.self.now.table.hub c.args.self.now.gone.items c.args.grant c.args.conn _ (ap is_taken c.requires.going) c.requires.conn c.requires.conns)
+    (taken_only c.args.conn Answer.Gone _ _ c.in-Gone.ensures.told)) c.lose.ensures.known

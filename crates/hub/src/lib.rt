@@ -1,0 +1,20 @@
+//! The sessions of all grants over one desk and one wire: connections are admitted, and each session that is ready is served.
+#![tactic(auto)]
+
+mod hub;
+mod sessions;
+
+pub use hub::Hub;
+
+/// A hub could not go on.
+#[derive(Clone, Copy, Debug, PartialEq, Eq)]
+pub enum HubFault {
+    /// The cable failed.
+    Cable,
+}
+
+impl From<session_table::CableFailed> for HubFault {
+    fn from(_: session_table::CableFailed) -> Self {
+        HubFault::Cable
+    }
+}
