@@ -16,7 +16,7 @@ use Rattle.hub.specs.Served.{AreFlagged, ConnIsOpen, ConnsAreOpen, IsInUse, conn
 
 -- ---- from the seats
 
-each_at : (wire : WireView) (seats : List SeatView) → EachSeatIsOpen wire seats → (grant : ℕ) → is_taken (slice_index_or seats grant no_view).session.stand ≡ true → SeatIsOpen wire (slice_index_or seats grant no_view)
+pub each_at : (wire : WireView) (seats : List SeatView) → EachSeatIsOpen wire seats → (grant : ℕ) → is_taken (slice_index_or seats grant no_view).session.stand ≡ true → SeatIsOpen wire (slice_index_or seats grant no_view)
 each_at wire [] each grant open_now = false_true open_now
 each_at wire (view ∷ views) each zero open_now = each.0 open_now
 each_at wire (view ∷ views) each (suc grant) open_now = each_at wire views each.1 grant open_now
@@ -74,7 +74,7 @@ told_conns hub gone (Some wire) flagged seats = open_by_seats hub gone wire flag
 
 -- ---- to the seats
 
-each_from : (wire : WireView) (seats : List SeatView) → ((grant : ℕ) → is_taken (slice_index_or seats grant no_view).session.stand ≡ true → SeatIsOpen wire (slice_index_or seats grant no_view)) → EachSeatIsOpen wire seats
+pub each_from : (wire : WireView) (seats : List SeatView) → ((grant : ℕ) → is_taken (slice_index_or seats grant no_view).session.stand ≡ true → SeatIsOpen wire (slice_index_or seats grant no_view)) → EachSeatIsOpen wire seats
 each_from wire [] each = tt
 each_from wire (view ∷ views) each = (each 0, each_from wire views (λ grant. each (suc grant)))
 
@@ -105,7 +105,7 @@ suc_same one other is = omega (arith, is)
 zero_suc : {A : Type 0} (n : ℕ) → 0 ≡ suc n → A
 zero_suc n is = absurd (omega (arith, is))
 
-once_from : (seats : List SeatView) → ((one other : ℕ) → is_taken (slice_index_or seats one no_view).session.stand ≡ true → is_taken (slice_index_or seats other no_view).session.stand ≡ true
+pub once_from : (seats : List SeatView) → ((one other : ℕ) → is_taken (slice_index_or seats one no_view).session.stand ≡ true → is_taken (slice_index_or seats other no_view).session.stand ≡ true
     → (slice_index_or seats one no_view).conn ≡ (slice_index_or seats other no_view).conn → one ≡ other) → OnceEach (open_conns seats)
 once_from [] once = tt
 once_from (view ∷ views) once = by (is_taken view.session.stand) refl (once_from views (λ one other open_one open_other same. suc_same one other (once (suc one) (suc other) open_one open_other same)))

@@ -6,3 +6,4 @@ pub mod Beginning
 pub mod Between
 pub mod Shutting
 pub mod Started
+pub mod Polling

@@ -59,6 +59,7 @@ record Apart (conn : ℕ) (step : Step) : Type 0 where
 
 only_snoc : (conn : ℕ) (step : Step) (old new : WireView) → ((other : ℕ) → other ≢ conn → Apart other step) → new.steps ≡ old.steps ++ step ∷ [] → OnlyOf conn old new
 only_snoc conn step old new apart is = record {
+  kept = λ before. ap (list_any (opens conn)) is ∙ list_any-append (opens conn) old.steps (step ∷ []) ∙ rw before refl;
   opened = λ other ne. ap (list_any (opens other)) is ∙ list_any-append (opens other) old.steps (step ∷ []) ∙ rw ((apart other ne).opened) (or_false (list_any (opens other) old.steps));
   shut = λ other ne. ap (shuts other) is ∙ shuts-snoc other old.steps step ∙ ap (λ n. shuts other old.steps + n) (apart other ne).shut ∙ plus_zero (shuts other old.steps);
   gone = λ other ne. ap (has_gone other) is ∙ list_any-append (is_gone_step other) old.steps (step ∷ []) ∙ rw ((apart other ne).gone) (or_false (has_gone other old.steps));
@@ -78,6 +79,7 @@ apart_shut conn other ne = record { opened = refl; shut = rw (not_eq other conn 
 
 pub only_same : (conn : ℕ) (old new : WireView) → new.steps ≡ old.steps → OnlyOf conn old new
 only_same conn old new is = record {
+  kept = λ before. ap (list_any (opens conn)) is ∙ before;
   opened = λ other ne. ap (list_any (opens other)) is;
   shut = λ other ne. ap (shuts other) is;
   gone = λ other ne. ap (has_gone other) is;
@@ -85,6 +87,7 @@ only_same conn old new is = record {
 
 pub only_then : (conn : ℕ) (old between new : WireView) → OnlyOf conn old between → OnlyOf conn between new → OnlyOf conn old new
 only_then conn old between new one two = record {
+  kept = λ before. two.kept (one.kept before);
   opened = λ other ne. two.opened other ne ∙ one.opened other ne;
   shut = λ other ne. two.shut other ne ∙ one.shut other ne;
   gone = λ other ne. two.gone other ne ∙ one.gone other ne;
@@ -324,6 +327,7 @@ take_lost hub gone grant conn (Some old) (Some new) lt is taken conns r = drop_t
 
 of_opened : (conn : ℕ) (old new : WireView) → list_any (opens conn) old.steps ≡ true → OnlyOf conn old new → OnlyOpened old new
 of_opened conn old new open_now only = record {
+  kept = λ other known. still other known (same_or other conn);
   opened = λ other unknown. only.opened other (apart other unknown) ∙ unknown;
   shut = λ other unknown. only.shut other (apart other unknown);
   gone = λ other unknown. only.gone other (apart other unknown);
@@ -332,8 +336,13 @@ of_opened conn old new open_now only = record {
     apart : (other : ℕ) → list_any (opens other) old.steps ≡ false → other ≢ conn
     apart other unknown same = false_true (sym unknown ∙ ap (λ c. list_any (opens c) old.steps) same ∙ open_now)
 
+    still : (other : ℕ) → list_any (opens other) old.steps ≡ true → (other ≡ conn) ⊎ (other ≢ conn) → list_any (opens other) new.steps ≡ true
+    still other known (inl same) = ap (λ c. list_any (opens c) new.steps) same ∙ only.kept open_now
+    still other known (inr ne) = only.opened other ne ∙ known
+
 pub known_then : (a b d : Option WireView) → Both a b OnlyOpened → Both b d OnlyOpened → Both a d OnlyOpened
 known_then = both_joined OnlyOpened OnlyOpened OnlyOpened (λ old between new one two. record {
+  kept = λ conn known. two.kept conn (one.kept conn known);
   opened = λ conn unknown. two.opened conn (one.opened conn unknown);
   shut = λ conn unknown. two.shut conn (one.opened conn unknown) ∙ one.shut conn unknown;
   gone = λ conn unknown. two.gone conn (one.opened conn unknown) ∙ one.gone conn unknown;
@@ -341,7 +350,7 @@ known_then = both_joined OnlyOpened OnlyOpened OnlyOpened (λ old between new on
 
 pub known_same : (a : Option WireView) → Both a a OnlyOpened
 known_same None = tt
-known_same (Some old) = record { opened = λ conn unknown. unknown; shut = λ conn unknown. refl; gone = λ conn unknown. refl }
+known_same (Some old) = record { kept = λ conn known. known; opened = λ conn unknown. unknown; shut = λ conn unknown. refl; gone = λ conn unknown. refl }
 
 pub known_open : (conn : ℕ) (gone : Bool) (a b : Option WireView) → Told a (λ wire. ConnIsOpen wire conn gone) → Both a b (OnlyOf conn) → Both a b OnlyOpened
 known_open conn gone None None is only = tt

@@ -1,5 +1,5 @@
 -- A hub over sessions that are all free.
-use Rattle.std.proofs.Common.{◌≡◌, ℕ, Bool, true, false, List, [], length, map, ap, sym, ◌∙◌}
+use Rattle.std.proofs.Common.{◌≡◌, ℕ, Bool, false, List, [], length, map, ap, sym, ◌∙◌}
 use Rattle.std.proofs.lemmas.List.{length-map}
 use Rattle.grant_table.specs.Layouts.{LayoutShape}
 use Rattle.client_session.specs.declared.Stand.TheVariants as stand

@@ -85,14 +85,16 @@ pub record ConnsAreOpen (hub : HubView) (gone : List Bool) (left : List SessionE
   pub each : (grant : ℕ) → IsInUse hub left grant → ConnIsOpen wire (conn_at hub grant) (is_gone gone grant)
   pub once : (one other : ℕ) → IsInUse hub left one → IsInUse hub left other → conn_at hub one ≡ conn_at hub other → one ≡ other
 
--- the steps that were told touch this connection alone
+-- the steps that were told touch this connection alone; where it had opened, that is told still
 pub record OnlyOf (conn : ℕ) (old new : WireView) : Type 0 where
+  pub kept : list_any (opens conn) old.steps ≡ true → list_any (opens conn) new.steps ≡ true
   pub opened : (other : ℕ) → other ≢ conn → list_any (opens other) new.steps ≡ list_any (opens other) old.steps
   pub shut : (other : ℕ) → other ≢ conn → shuts other new.steps ≡ shuts other old.steps
   pub gone : (other : ℕ) → other ≢ conn → has_gone other new.steps ≡ has_gone other old.steps
 
--- the steps that were told are of connections that opened before
+-- the steps that were told are of connections that opened before; that these opened is told still
 pub record OnlyOpened (old new : WireView) : Type 0 where
+  pub kept : (conn : ℕ) → list_any (opens conn) old.steps ≡ true → list_any (opens conn) new.steps ≡ true
   pub opened : (conn : ℕ) → list_any (opens conn) old.steps ≡ false → list_any (opens conn) new.steps ≡ false
   pub shut : (conn : ℕ) → list_any (opens conn) old.steps ≡ false → shuts conn new.steps ≡ shuts conn old.steps
   pub gone : (conn : ℕ) → list_any (opens conn) old.steps ≡ false → has_gone conn new.steps ≡ has_gone conn old.steps
@@ -192,6 +194,11 @@ pub record IsHub (hub : HubView) (gone : List Bool) (buffer : List ℕ) : Type 0
   pub whole : AreWhole hub gone
   pub calm : hub.broken ≡ false → AreCalm hub gone
   pub room : length buffer ≡ buffer_size
+
+-- of a connection that did not open, neither a drop nor a shut is told
+pub record OnlyTellsOpened (wire : WireView) : Type 0 where
+  pub gone : (conn : ℕ) → list_any (opens conn) wire.steps ≡ false → has_gone conn wire.steps ≡ false
+  pub shut : (conn : ℕ) → list_any (opens conn) wire.steps ≡ false → shuts conn wire.steps ≡ 0
 
 -- what is found is a connection that opened just now, or another
 abbrev pub OpensIn : Found → HubView → WireView → Type 0
