@@ -18,3 +18,6 @@ impl From<session_table::CableFailed> for HubFault {
         HubFault::Cable
     }
 }
+
+#[cfg(test)]
+mod tests;

@@ -1,0 +1,14 @@
+use Rattle.std.proofs.Common.{◌≡◌, false, true}
+use Rattle.base_types.specs.Tellings.{Told}
+use Rattle.plays.specs.Outcomes.{SeatsOpen}
+use Rattle.hub.specs.Served.{OnlyTellsOpened}
+use Rattle.hub.proofs.tests.serve.Given as goal
+
+abbrev pub invariant-loop : goal.invariant-loop
+invariant-loop g l = record {
+  fit : l.hub.hub.broken ≡ false;
+  open_now : Told (g.W.Wire.told l.wire) (SeatsOpen l.hub.hub);
+  tells : Told (g.W.Wire.told l.wire) OnlyTellsOpened;
+  up : (g.W.Wire.door l.wire).up ≡ true;
+  over : (g.W.Wire.door l.wire).over ≡ false;
+}
