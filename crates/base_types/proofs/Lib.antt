@@ -1,3 +1,2 @@
 pub mod CountLaws
 pub mod TellingLaws
-pub mod TextLaws

@@ -249,11 +249,11 @@ fn accepted(alloc: Global, values: &Values, plan: PartPlan) -> Result<Part, Bsdl
 fn capitals(alloc: Global, word: &[u8]) -> Result<Text, AllocError>
     ensures { IfOk result (λ text. text ≡ r.capitals word.now) }
 {
-    let mut text = Text::new();
+    let mut string = String::new(alloc);
     for byte in word {
-        text.push(alloc, capital(*byte) as char)?;
+        string.push(capital(*byte) as char)?;
     }
-    Ok(text)
+    Ok(Text::from_string(string))
 }
 
 // The entity of a text whose structure is known.

@@ -7,10 +7,3 @@ pub mod Between
 pub mod Shutting
 pub mod Started
 pub mod Polling
-pub mod Tables
-pub mod LettingGo
-pub mod Standing
-pub mod Giving
-pub mod Openings
-pub mod Events
-pub mod Ends

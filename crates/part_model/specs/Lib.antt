@@ -5,4 +5,3 @@ pub mod Plans
 pub mod Demo
 pub mod Laws
 pub mod Sound
-pub mod CodeTables

@@ -11,4 +11,3 @@ pub mod Replied
 pub mod Opening
 pub mod Opened
 pub mod Starting
-pub mod Few

@@ -3,7 +3,7 @@ ghost use Rattle.std.specs.Prelude.{◌≡◌};
 ghost use Rattle.share_top.specs.CheckRuns as runs;
 ghost use Rattle.share_top.specs.Setups.{LoadsListed};
 
-use text_lines::Line;
+use crate::line::Line;
 use crate::print::print_setup;
 use crate::setup::{NoSetup, load_setup};
 use crate::tell::{WRITE_FAULT, tell};

@@ -2,7 +2,7 @@
 ghost use Rattle.std.specs.Prelude.{◌≡◌};
 ghost use Rattle.share_top.specs.Pipes as pipes;
 
-use text_lines::{Line, number_line, push_number, push_text, text_line};
+use crate::line::{Line, number_line, push_number, push_text, text_line};
 use crate::setup::NoSetup;
 use crate::tell::WRITE_FAULT;
 use client_session::End;

@@ -4,7 +4,7 @@ ghost use Rattle.setup_read.specs.declared.setup.SetupRefusal.TheVariants.{Plain
 ghost use Rattle.share_top.specs.Checks as checks;
 ghost use Rattle.share_top.specs.Checks.{place_text};
 
-use text_lines::{Line, number_line, push_number, push_text, text_line};
+use crate::line::{Line, number_line, push_number, push_text, text_line};
 use grant_table::LayoutRefusal;
 use setup_document::Place;
 use setup_read::SetupRefusal;

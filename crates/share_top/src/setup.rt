@@ -3,7 +3,7 @@ ghost use Rattle.std.specs.Prelude.{◌≡◌, IfOk, IfErr, OnOk};
 ghost use Rattle.setup_read.specs.Setups.{IsWhole};
 ghost use Rattle.share_top.specs.Setups as setups;
 
-use text_lines::{Line, text_line};
+use crate::line::{Line, text_line};
 use crate::refusal::{refusal_line, refusal_status};
 use ports::{LoadFault, Shelf};
 use setup_read::{Setup, SetupRefusal, read_setup};

@@ -2,9 +2,8 @@
 #![tactic(auto)]
 
 use chain_model::Chain;
-use mio_wire::MioWire;
 use ports::{FolderShelf, Sink, StdSink, StdSource, write_all};
-use share_top::{Ran, run};
+use share_top::{RanLocal, local_command};
 use std::alloc::Global;
 use std::env;
 use std::io::ErrorKind;
@@ -48,42 +47,25 @@ fn tell_no_memory<O: Sink>(out: &mut O) -> u8 {
     }
 }
 
-fn run_words(rt: HostRuntime, alloc: Global) -> u8 {
+fn run(rt: HostRuntime, alloc: Global) -> u8 {
     let words = words(&rt, alloc);
     let input: Result<HostRuntime, _> = rt.clone();
     let files: Result<HostRuntime, _> = rt.clone();
-    let sockets: Result<HostRuntime, _> = rt.clone();
-    let waits: Result<HostRuntime, _> = rt.clone();
     let mut out = StdSink::new(rt);
-    let (Ok(words), Ok(input), Ok(files), Ok(sockets), Ok(waits)) =
-        (words, input, files, sockets, waits)
-    else {
-        return tell_no_memory(&mut out);
-    };
-    let Ok(wire) = MioWire::new(sockets, alloc, None) else {
+    let (Ok(words), Ok(input), Ok(files)) = (words, input, files) else {
         return tell_no_memory(&mut out);
     };
     let mut shelf = FolderShelf::new(files, alloc);
     let mut input = StdSource::new(input);
-    let Ran {
+    let RanLocal {
         status,
         bench: _,
         out: _,
-        wire: _,
-    } = run(
-        &waits,
-        alloc,
-        &words,
-        Chain::empty(),
-        &mut shelf,
-        &mut input,
-        out,
-        wire,
-    );
+    } = local_command(alloc, &words, Chain::empty(), &mut shelf, &mut input, out);
     status
 }
 
 fn main(rt: HostRuntime) -> ExitCode {
     let alloc = rt.alloc();
-    ExitCode::from(run_words(rt, alloc))
+    ExitCode::from(run(rt, alloc))
 }

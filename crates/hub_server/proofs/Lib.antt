@@ -1,4 +1,0 @@
-pub mod Finding
-pub mod Going
-pub mod Ports
-pub mod Telling
