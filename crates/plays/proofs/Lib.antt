@@ -5,11 +5,13 @@ pub mod Serving
 pub mod Moving
 pub mod Admitted
 pub mod Isolation
+pub mod Given
 pub mod Turning
 pub mod OneCapture
 pub mod Holding
 pub mod Over
 pub mod Since
+pub mod Pasts
 pub mod Replays
 pub mod Weights
 pub mod Resting

@@ -1,10 +1,15 @@
 //! All sessions over one scan chain: what the steps of a wire come to, and that no grant disturbs another.
 #![tactic(auto)]
 
-ghost use Rattle.std.specs.Prelude.{◌≡◌, ◌<◌, ℕ, [], length};
+ghost use Rattle.std.specs.Prelude.{◌≡◌, ◌<◌, ℕ, [], length, true};
 ghost use Rattle.client_session.specs.Turns.{gone_on};
 ghost use Rattle.plays.specs.Plays.{Setting, Play, played, start, go, after_turn, turn_at};
 ghost use Rattle.plays.specs.Marks.{EachWaitsOneCaptureOfAnother, JoinsAreMarked};
+ghost use Rattle.chain_model.specs.Chains.{ChainState};
+ghost use Rattle.wire_port.specs.Steps.{opens_once};
+ghost use Rattle.wire_port.specs.Wires.{WireView};
+ghost use Rattle.plays.specs.Given.{SharedAsAlone};
+ghost use Rattle.plays.specs.Stands.{HubView, Stands};
 ghost use Rattle.plays.specs.Laws.{EachAsAlone, EachWaitsBehind, EachScanIsHeld, EachSeatIsOver, EachReplayIsPlayed, EachReplayRests, EachReplyIsShort};
 
 /// In a play of no steps no session ends.
@@ -62,4 +67,11 @@ pub fn replays_rest()
 /// A connection is replied three bytes at most for each byte that was taken from it, where the vector length has eight digits at most.
 pub fn replies_are_short()
     ensures { EachReplyIsShort }
+{}
+
+/// Where a hub, the shared chain and a wire stand for the play of the wire's steps, each peer was given a front of what its grant's private chain
+/// replies to the grant's own bytes and drops alone, and all of it where the grant does not wait and the peer took what there was; nobody else was
+/// given anything; and the shared devices hold what the private devices hold.
+pub fn what_stands_is_shared_as_alone()
+    ensures { (setting : Setting) (hub : HubView) (chain : ChainState) (wire : WireView) → opens_once wire.steps ≡ true → Stands setting hub chain wire (played setting wire.steps) → SharedAsAlone setting chain wire }
 {}

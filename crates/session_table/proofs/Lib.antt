@@ -11,3 +11,4 @@ pub mod Replied
 pub mod Opening
 pub mod Opened
 pub mod Starting
+pub mod Few

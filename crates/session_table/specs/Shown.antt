@@ -1,5 +1,5 @@
 -- What a table of sessions shows of its parts.
-use Rattle.std.specs.Prelude.{ℕ, ◌≡◌, ◌≤◌, Bool, true, false, List, [], map}
+use Rattle.std.specs.Prelude.{ℕ, ◌≡◌, ◌≤◌, ◌<◌, Bool, true, false, List, [], ◌∷◌, map}
 use Rattle.std.proofs.lemmas.Bool.{true≢false}
 use Rattle.std.specs.declared.option.Option.{Option}
 use Rattle.std.specs.declared.option.Option.TheVariants.{None, Some}
@@ -55,6 +55,11 @@ seat_view seat = record { session = seat.session.view; conn = seat.conn }
 -- a session that ended
 abbrev pub session_end : Ended → SessionEnd
 session_end ended = record { grant = ended.grant; conn = ended.conn; end = ended.end }
+
+-- each is a session of a grant below 16
+abbrev pub EachFew : List Ended → Type 0
+EachFew [] = Unit {0}
+EachFew (ended ∷ more) = (ended.grant < 16) × EachFew more
 
 -- what seats and a slot show
 abbrev pub hub_of : {C : Type 0} → Seats → Slot C → HubView

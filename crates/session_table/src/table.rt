@@ -12,7 +12,7 @@ ghost use Rattle.client_session.specs.Private.{opened, received};
 ghost use Rattle.client_session.specs.Sessions.{is_here, is_taken, view_wants};
 ghost use Rattle.plays.specs.Plays.{Setting, Play, next_in_line, seat_at, start};
 ghost use Rattle.session_table.specs.Tables.{FollowsOpening, FollowsPlays, KeepsTable, RepliesFronts, StandsOn, WentOn, reply_at, stand_at, view_at, with_given, with_reply};
-ghost use Rattle.session_table.specs.Shown.{FreshOn, Settles, is_out, session_end};
+ghost use Rattle.session_table.specs.Shown.{EachFew, FreshOn, Settles, is_out, session_end};
 
 use crate::seats::Seats;
 use crate::{CableFailed, Ended};
@@ -122,7 +122,8 @@ impl<C: Cable> SessionTable<C> {
 
     /// The sessions that ended since `forget_ended`, in order.
     pub fn ended(&self) -> &[Ended]
-        ensures { map session_end result.now ≡ self.now.hub.ended }
+        ensures are { map session_end result.now ≡ self.now.hub.ended }
+        ensures few { self.now.hub.broken ≡ false → EachFew result.now }
     {
         self.seats.ended()
     }
