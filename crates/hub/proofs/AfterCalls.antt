@@ -71,7 +71,7 @@ among_open old new (ended ∷ more) grant each among = by (same_or ended.grant g
     by (inl is) later = subst (λ g. is_taken (stand_at old g) ≡ true) is each.0.open_before
     by (inr ne) later = later (sym (ap (λ b. b || is_among grant (grants_of more)) (not_eq ended.grant grant ne)) ∙ among)
 
-went_used : (grant : ℕ) (flag : Bool) (old new : HubView) (went : WentOn grant flag old new) → is_taken (stand_at old grant) ≡ true → (other : ℕ) → IsInUse new went.ends other → IsInUse old [] other
+pub went_used : (grant : ℕ) (flag : Bool) (old new : HubView) (went : WentOn grant flag old new) → is_taken (stand_at old grant) ≡ true → (other : ℕ) → IsInUse new went.ends other → IsInUse old [] other
 went_used grant flag old new went open_now other (inl taken) = by (same_or other grant)
   where
     by : (other ≡ grant) ⊎ (other ≢ grant) → IsInUse old [] other

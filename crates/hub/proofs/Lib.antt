@@ -7,3 +7,9 @@ pub mod Between
 pub mod Shutting
 pub mod Started
 pub mod Polling
+pub mod Tables
+pub mod LettingGo
+pub mod Standing
+pub mod Giving
+pub mod Openings
+pub mod Events

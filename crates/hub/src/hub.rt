@@ -8,11 +8,13 @@ ghost use Rattle.base_types.specs.Tellings.{Told, Both};
 ghost use Rattle.scan_share.specs.Scans.{IsWhole};
 ghost use Rattle.client_session.specs.declared.Stand.TheVariants.{Free};
 ghost use Rattle.client_session.specs.Sessions.{is_taken};
-ghost use Rattle.wire_port.specs.Calls.{is_end};
+ghost use Rattle.wire_port.specs.Calls.{is_end, IsWire};
 ghost use Rattle.plays.specs.Plays.{Setting, start};
 ghost use Rattle.plays.specs.Outcomes.{SeatsOpen};
 ghost use Rattle.session_table.specs.Shown.{FreshOn, session_end};
 ghost use Rattle.session_table.specs.Tables.{StandsOn, stand_at, reply_at, view_at};
+ghost use Rattle.wire_port.specs.Wires.{WireView};
+ghost use Rattle.hub.specs.Standing.{HubStands, FoundNow};
 ghost use Rattle.hub.specs.Served.{KeepsMade, OnlyOpened, OpensIn, ShutsAfter, ShutsFor};
 
 use crate::HubFault;
@@ -81,6 +83,7 @@ impl<C: Cable> Hub<C> {
         ensures none { IfOk result (λ new. (new.hub.holder ≡ None) × (new.hub.waiting ≡ []) × (new.hub.joins ≡ 0) × (new.hub.ended ≡ []) × (new.hub.broken ≡ false)) }
         ensures cable { IfOk result (λ new. new.cable ≡ parked.cable) }
         ensures stands { IfOk result (λ new. (setting : Setting) → FreshOn setting layout vector uses_trst (C.chain parked.cable) → StandsOn setting new.hub (λ grant. []) (C.chain parked.cable) (start setting)) }
+        ensures begins { IfOk result (λ new. (setting : Setting) (wire : WireView) → FreshOn setting layout vector uses_trst (C.chain parked.cable) → IsWire wire → wire.steps ≡ [] → HubStands setting new.hub (C.chain new.cable) (Some wire)) }
         ensures back { IfErr result (λ back. back ≡ parked) }
     {
         let Ok(gone) = vec![in alloc; false; layout.grants()] else {
@@ -113,6 +116,7 @@ impl<C: Cable> Hub<C> {
         ensures open { OnOk result (Told (W.told wire.new) (SeatsOpen self.new.hub)) }
         ensures shuts { OnOk result (Both (W.told wire.old) (W.told wire.new) (ShutsAfter found self.old.hub self.new.hub.ended)) }
         ensures known { OnOk result (Both (W.told wire.old) (W.told wire.new) OnlyOpened) }
+        ensures stands { OnOk result ((setting : Setting) (before : Option WireView) → FoundNow found before (W.told wire.old) → HubStands setting self.old.hub (C.chain self.old.cable) before → HubStands setting self.new.hub (C.chain self.new.cable) (W.told wire.new)) }
         ensures door { W.door wire.new ≡ W.door wire.old }
         ensures faults { W.fault_count wire.new ≡ W.fault_count wire.old }
         ensures mark { C.mark self.new.cable ≡ C.mark self.old.cable }
@@ -134,6 +138,7 @@ impl<C: Cable> Hub<C> {
         ensures open { OnOk result (Told (W.told wire.new) (SeatsOpen self.new.hub)) }
         ensures shuts { OnOk result (Both (W.told wire.old) (W.told wire.new) (ShutsFor [] self.new.hub.ended)) }
         ensures known { OnOk result (Both (W.told wire.old) (W.told wire.new) OnlyOpened) }
+        ensures stands { OnOk result ((setting : Setting) → HubStands setting self.old.hub (C.chain self.old.cable) (W.told wire.old) → HubStands setting self.new.hub (C.chain self.new.cable) (W.told wire.new)) }
         ensures door { W.door wire.new ≡ W.door wire.old }
         ensures faults { W.fault_count wire.new ≡ W.fault_count wire.old }
         ensures mark { C.mark self.new.cable ≡ C.mark self.old.cable }

@@ -2,9 +2,13 @@
 #![tactic(auto)]
 
 mod hub;
+mod laws;
+mod letting_go;
+mod serving;
 mod sessions;
 
 pub use hub::Hub;
+pub use laws::{a_hub_stands_for_its_play, polls_keep_the_play};
 
 /// A hub could not go on.
 #[derive(Clone, Copy, Debug, PartialEq, Eq)]

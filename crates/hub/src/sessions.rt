@@ -14,7 +14,13 @@ ghost use Rattle.session_table.specs.Tables.{stand_at, reply_at, view_at};
 ghost use Rattle.wire_port.specs.declared.wire.Found.TheVariants.{Opened};
 ghost use Rattle.wire_port.specs.Calls.{IsOpen, CanBeShut};
 ghost use Rattle.grant_table.specs.Layouts.{first_place};
-ghost use Rattle.hub.specs.Served.{HasBegun, HasShut, OpensIn, OpensNow, ShutsAfter, ShutsFor, admitted_at, serves_conn, AreWhole, AreCalm, AreLeft, ConnIsOpen, ConnsAreOpen, KeepsMade, OnlyOf, OnlyOpened, SameSessions, conn_at, grants_of, is_gone, next_of, quieted, ready_as, settled, with_seats};
+ghost use Rattle.hub.specs.Standing.{KeepsPlay, FollowsEvent, TookNow, GoneNow, FoundNow, StandsOnBut};
+ghost use Rattle.wire_port.specs.Wires.{WireView};
+ghost use Rattle.wire_port.specs.Offers.{Answer};
+ghost use Rattle.wire_port.specs.Calls.{after_give, IsWire};
+ghost use Rattle.plays.specs.Plays.{Setting, SessionEnd};
+ghost use Rattle.grant_table.specs.Layouts.{grant_of};
+ghost use Rattle.hub.specs.Served.{HasBegun, HasShut, OpensIn, OpensNow, ShutsAfter, ShutsFor, admitted_at, serves_conn, AreWhole, AreCalm, AreFlagged, AreLeft, ConnIsOpen, ConnsAreOpen, KeepsMade, OnlyOf, OnlyOpened, SameSessions, conn_at, grants_of, is_gone, next_of, quieted, ready_as, settled, with_seats};
 
 use crate::HubFault;
 use chain_model::Cable;
@@ -28,16 +34,9 @@ pub struct Sessions<C: Cable> {
     pub gone: Vec<bool>,
 }
 
-// The peer was gone when the session ended.
-fn is_drop(end: End) -> bool
-    ensures { result ≡ is_drop end }
-{
-    matches!(end, End::Gone(_) | End::Cut(_))
-}
-
 impl<C: Cable> Sessions<C> {
     // Whether a grant's session is open and its peer is there.
-    fn is_here(&self, grant: usize) -> bool
+    pub fn is_here(&self, grant: usize) -> bool
         requires { grant < length self.now.table.hub.seats }
         ensures { result ≡ is_here (stand_at self.now.table.hub grant) }
     {
@@ -48,7 +47,7 @@ impl<C: Cable> Sessions<C> {
     }
 
     // Whether a grant's session is open and does not wait.
-    fn is_going(&self, grant: usize) -> bool
+    pub fn is_going(&self, grant: usize) -> bool
         requires { grant < length self.now.table.hub.seats }
         ensures yes { result ≡ true → stand_at self.now.table.hub grant ≡ Going }
         ensures no { result ≡ false → stand_at self.now.table.hub grant ≢ Going }
@@ -60,7 +59,7 @@ impl<C: Cable> Sessions<C> {
     }
 
     // How many sessions ended since the list was emptied.
-    fn ended_count(&self) -> usize
+    pub fn ended_count(&self) -> usize
         ensures { result ≡ length self.now.table.hub.ended }
     {
         self.table.ended().len()
@@ -68,501 +67,11 @@ impl<C: Cable> Sessions<C> {
 
     // The session that ended at a place of the list.
     #[tactic(auto, using(crate::proofs::SeatLists::ended_next))]
-    fn ended_at(&self, at: usize) -> Ended
+    pub fn ended_at(&self, at: usize) -> Ended
         requires { at < length self.now.table.hub.ended }
         ensures { drop at self.now.table.hub.ended ≡ session_end result ∷ drop (at + 1) self.now.table.hub.ended }
     {
         self.table.ended()[at]
-    }
-
-    // The reply of a grant's session is thrown away where its peer is not there.
-    #[tactic(auto, using(crate::proofs::SeatLists::here_as_was, crate::proofs::SeatLists::away_quiet))]
-    fn quiet_one(&mut self, grant: usize)
-        requires { grant < length self.old.table.hub.seats }
-        ensures seats { self.new.table ≡ with_seats (slice_set self.old.table.hub.seats grant (quieted (view_at self.old.table.hub grant))) self.old.table }
-        ensures gone { self.new.gone ≡ self.old.gone }
-    {
-        if !self.is_here(grant) {
-            self.table.drop_reply(grant);
-        }
-    }
-
-    // The replies of all whose peer is not there are thrown away.
-    #[tactic(auto, using(crate::proofs::SeatLists::quiet_first, crate::proofs::SeatLists::quiet_more, crate::proofs::SeatLists::quiet_done))]
-    fn quiet(&mut self)
-        requires { AreWhole self.old.table.hub self.old.gone.items }
-        ensures seats { self.new.table ≡ with_seats (map quieted self.old.table.hub.seats) self.old.table }
-        ensures gone { self.new.gone ≡ self.old.gone }
-    {
-        for grant in 0..self.gone.len() {
-            self.quiet_one(grant);
-        }
-    }
-
-    // One give of what is left of the reply to a session that ended.
-    #[tactic(auto, using(crate::proofs::OnTheWire::given_only, crate::proofs::OnTheWire::given_shut, crate::proofs::OnTheWire::both_same))]
-    fn give_last<W: Wire>(&self, wire: &mut W, grant: usize, conn: Conn)
-        requires grant { grant < length self.now.table.hub.seats }
-        requires open { Told (W.told wire.old) (IsOpen conn) }
-        ensures only { Both (W.told wire.old) (W.told wire.new) (OnlyOf conn) }
-        ensures can { Told (W.told wire.new) (CanBeShut conn) }
-        ensures door { W.door wire.new ≡ W.door wire.old }
-        ensures faults { W.fault_count wire.new ≡ W.fault_count wire.old }
-        ensures shuts { Both (W.told wire.old) (W.told wire.new) (ShutsFor [] []) }
-    {
-        let piece = self.table.reply(grant);
-        if !piece.is_empty() {
-            let _given = wire.give(conn, piece);
-        }
-    }
-
-    // The same, where the peer is there.
-    #[tactic(auto, using(crate::proofs::OnTheWire::both_same))]
-    fn give_left<W: Wire>(&self, wire: &mut W, grant: usize, conn: Conn)
-        requires grant { grant < length self.now.table.hub.seats }
-        requires flags { grant < length self.now.gone.items }
-        requires open { Told (W.told wire.old) (λ wire. ConnIsOpen wire conn (is_gone self.now.gone.items grant)) }
-        ensures only { Both (W.told wire.old) (W.told wire.new) (OnlyOf conn) }
-        ensures can { Told (W.told wire.new) (CanBeShut conn) }
-        ensures door { W.door wire.new ≡ W.door wire.old }
-        ensures faults { W.fault_count wire.new ≡ W.fault_count wire.old }
-        ensures shuts { Both (W.told wire.old) (W.told wire.new) (ShutsFor [] []) }
-    {
-        if !self.gone[grant] {
-            self.give_last(wire, grant, conn);
-        }
-    }
-
-    // The connection of a session that ended is shut, after one give of its reply where the peer is there.
-    #[tactic(auto, using(crate::proofs::OnTheWire::both_then, crate::proofs::OnTheWire::shut_only))]
-    fn shut<W: Wire>(&self, wire: &mut W, grant: usize, conn: Conn)
-        requires grant { grant < length self.now.table.hub.seats }
-        requires flags { grant < length self.now.gone.items }
-        requires open { Told (W.told wire.old) (λ wire. ConnIsOpen wire conn (is_gone self.now.gone.items grant)) }
-        ensures only { Both (W.told wire.old) (W.told wire.new) (OnlyOf conn) }
-        ensures door { W.door wire.new ≡ W.door wire.old }
-        ensures faults { W.fault_count wire.new ≡ W.fault_count wire.old }
-        ensures shuts { Both (W.told wire.old) (W.told wire.new) (HasShut conn) }
-    {
-        self.give_left(wire, grant, conn);
-        wire.shut(conn);
-    }
-
-    // A session that ended is not ready. Where it did not end by a drop, its connection is shut.
-    #[tactic(auto, using(crate::proofs::OnTheWire::both_same, crate::proofs::OnTheWire::known_same, crate::proofs::OnTheWire::known_open))]
-    fn let_go<W: Wire>(&mut self, wire: &mut W, ended: Ended)
-        requires grant { ended.grant < length self.old.table.hub.seats }
-        requires flags { ended.grant < length self.old.gone.items }
-        requires open { Told (W.told wire.old) (λ wire. ConnIsOpen wire ended.conn (is_gone self.old.gone.items ended.grant)) }
-        ensures ready { self.new.table ≡ ready_as (slice_set self.old.table.hub.ready ended.grant false) self.old.table }
-        ensures gone { self.new.gone ≡ self.old.gone }
-        ensures only { Both (W.told wire.old) (W.told wire.new) (OnlyOf ended.conn) }
-        ensures door { W.door wire.new ≡ W.door wire.old }
-        ensures faults { W.fault_count wire.new ≡ W.fault_count wire.old }
-        ensures shuts { Both (W.told wire.old) (W.told wire.new) (ShutsFor [] (session_end ended ∷ [])) }
-        ensures known { Both (W.told wire.old) (W.told wire.new) OnlyOpened }
-    {
-        self.table.set_ready(ended.grant, false);
-        if !is_drop(ended.end) {
-            self.shut(wire, ended.grant, ended.conn);
-        }
-    }
-
-    // The sessions that ended from a place of the list on are let go, in order.
-    #[tactic(auto, using(crate::proofs::SeatLists::lets_first, crate::proofs::SeatLists::lets_done, crate::proofs::Shutting::due_first, crate::proofs::OnTheWire::known_same))]
-    fn let_all_go<W: Wire>(&mut self, wire: &mut W, earlier: usize)
-        requires flags { AreWhole self.old.table.hub self.old.gone.items }
-        requires left { AreLeft self.old.table.hub (drop earlier self.old.table.hub.ended) }
-        requires conns { Told (W.told wire.old) (ConnsAreOpen self.old.table.hub self.old.gone.items (drop earlier self.old.table.hub.ended)) }
-        ensures ready { self.new.table ≡ ready_as (with_ready false (grants_of (drop earlier self.old.table.hub.ended)) self.old.table.hub.ready) self.old.table }
-        ensures gone { self.new.gone ≡ self.old.gone }
-        ensures conns { Told (W.told wire.new) (ConnsAreOpen self.old.table.hub self.old.gone.items []) }
-        ensures door { W.door wire.new ≡ W.door wire.old }
-        ensures faults { W.fault_count wire.new ≡ W.fault_count wire.old }
-        ensures shuts { Both (W.told wire.old) (W.told wire.new) (ShutsFor [] (drop earlier self.old.table.hub.ended)) }
-        ensures known { Both (W.told wire.old) (W.told wire.new) OnlyOpened }
-    {
-        for at in earlier..self.ended_count() {
-            let ended = self.ended_at(at);
-            self.let_go(wire, ended);
-        }
-    }
-
-    // After a call of the table: those that ended in it are let go, and the replies of those whose peer is not there are thrown away.
-    #[tactic(auto, using(crate::proofs::AfterCalls::told_settled, crate::proofs::AfterCalls::ready_whole))]
-    fn settle<W: Wire>(&mut self, wire: &mut W, earlier: usize)
-        requires flags { AreWhole self.old.table.hub self.old.gone.items }
-        requires left { AreLeft self.old.table.hub (drop earlier self.old.table.hub.ended) }
-        requires conns { Told (W.told wire.old) (ConnsAreOpen self.old.table.hub self.old.gone.items (drop earlier self.old.table.hub.ended)) }
-        ensures table { self.new.table ≡ settled earlier self.old.table }
-        ensures gone { self.new.gone ≡ self.old.gone }
-        ensures conns { Told (W.told wire.new) (ConnsAreOpen (settled earlier self.old.table).hub self.old.gone.items []) }
-        ensures door { W.door wire.new ≡ W.door wire.old }
-        ensures faults { W.fault_count wire.new ≡ W.fault_count wire.old }
-        ensures shuts { Both (W.told wire.old) (W.told wire.new) (ShutsFor [] (drop earlier self.old.table.hub.ended)) }
-        ensures known { Both (W.told wire.old) (W.told wire.new) OnlyOpened }
-    {
-        self.let_all_go(wire, earlier);
-        self.quiet();
-    }
-
-    // The peer of a grant's session is gone, as its flag says by now.
-    fn peer_gone<W: Wire>(&mut self, wire: &mut W, grant: usize) -> Result<(), HubFault>
-        requires whole { AreWhole self.old.table.hub self.old.gone.items }
-        requires grant { grant < length self.old.table.hub.seats }
-        requires rests { next_of self.old.table.hub ≢ Some grant }
-        requires fit { self.old.table.hub.broken ≡ false }
-        requires here { is_here (stand_at self.old.table.hub grant) ≡ true }
-        requires own { is_gone self.old.gone.items grant ≡ true }
-        requires others { (other : ℕ) → other ≢ grant → is_taken (stand_at self.old.table.hub other) ≡ true → is_leaving (stand_at self.old.table.hub other) ≡ is_gone self.old.gone.items other }
-        requires conns { Told (W.told wire.old) (ConnsAreOpen self.old.table.hub self.old.gone.items []) }
-        ensures whole { AreWhole self.new.table.hub self.new.gone.items }
-        ensures made { KeepsMade self.old.table.hub self.new.table.hub }
-        ensures calm { OnOk result (AreCalm self.new.table.hub self.new.gone.items) }
-        ensures broken { OnErr result (self.new.table.hub.broken ≡ true) }
-        ensures conns { OnOk result (Told (W.told wire.new) (ConnsAreOpen self.new.table.hub self.new.gone.items [])) }
-        ensures door { W.door wire.new ≡ W.door wire.old }
-        ensures faults { W.fault_count wire.new ≡ W.fault_count wire.old }
-        ensures mark { C.mark self.new.table.cable ≡ C.mark self.old.table.cable }
-        ensures trst { C.trst self.new.table.cable ≡ C.trst self.old.table.cable }
-        ensures cause { HasCause (C.fault_count self.old.table.cable) (C.fault_count self.new.table.cable) result }
-        ensures shuts { OnOk result (Both (W.told wire.old) (W.told wire.new) (ShutsFor self.old.table.hub.ended self.new.table.hub.ended)) }
-        ensures known { OnOk result (Both (W.told wire.old) (W.told wire.new) OnlyOpened) }
-    {
-        let earlier = self.ended_count();
-        self.table.peer_gone(grant)?;
-        self.settle(wire, earlier);
-        self.table.set_ready(grant, false);
-        Ok(())
-    }
-
-    // A grant's session takes bytes.
-    fn took<W: Wire>(&mut self, wire: &mut W, grant: usize, piece: &[u8]) -> Result<(), HubFault>
-        requires whole { AreWhole self.old.table.hub self.old.gone.items }
-        requires calm { AreCalm self.old.table.hub self.old.gone.items }
-        requires grant { grant < length self.old.table.hub.seats }
-        requires going { stand_at self.old.table.hub grant ≡ Going }
-        requires given { reply_at self.old.table.hub grant ≡ [] }
-        requires some { 1 ≤ length piece.now }
-        requires wanted { length piece.now ≤ view_wants (view_at self.old.table.hub grant).session }
-        requires conns { Told (W.told wire.old) (ConnsAreOpen self.old.table.hub self.old.gone.items []) }
-        ensures whole { AreWhole self.new.table.hub self.new.gone.items }
-        ensures made { KeepsMade self.old.table.hub self.new.table.hub }
-        ensures calm { OnOk result (AreCalm self.new.table.hub self.new.gone.items) }
-        ensures broken { OnErr result (self.new.table.hub.broken ≡ true) }
-        ensures conns { OnOk result (Told (W.told wire.new) (ConnsAreOpen self.new.table.hub self.new.gone.items [])) }
-        ensures door { W.door wire.new ≡ W.door wire.old }
-        ensures faults { W.fault_count wire.new ≡ W.fault_count wire.old }
-        ensures mark { C.mark self.new.table.cable ≡ C.mark self.old.table.cable }
-        ensures trst { C.trst self.new.table.cable ≡ C.trst self.old.table.cable }
-        ensures cause { HasCause (C.fault_count self.old.table.cable) (C.fault_count self.new.table.cable) result }
-        ensures shuts { OnOk result (Both (W.told wire.old) (W.told wire.new) (ShutsFor self.old.table.hub.ended self.new.table.hub.ended)) }
-        ensures known { OnOk result (Both (W.told wire.old) (W.told wire.new) OnlyOpened) }
-    {
-        let earlier = self.ended_count();
-        self.table.took(grant, piece)?;
-        self.settle(wire, earlier);
-        Ok(())
-    }
-
-    // The peer of a grant's session is found to be gone.
-    #[tactic(auto, using(crate::proofs::AfterCalls::flags_whole, crate::proofs::OnTheWire::flag_own, crate::proofs::OnTheWire::flag_other))]
-    fn lose<W: Wire>(&mut self, wire: &mut W, grant: usize) -> Result<(), HubFault>
-        requires whole { AreWhole self.old.table.hub self.old.gone.items }
-        requires calm { AreCalm self.old.table.hub self.old.gone.items }
-        requires grant { grant < length self.old.table.hub.seats }
-        requires rests { next_of self.old.table.hub ≢ Some grant }
-        requires here { is_here (stand_at self.old.table.hub grant) ≡ true }
-        requires conns { Told (W.told wire.old) (ConnsAreOpen self.old.table.hub (slice_set self.old.gone.items grant true) []) }
-        ensures whole { AreWhole self.new.table.hub self.new.gone.items }
-        ensures made { KeepsMade self.old.table.hub self.new.table.hub }
-        ensures calm { OnOk result (AreCalm self.new.table.hub self.new.gone.items) }
-        ensures broken { OnErr result (self.new.table.hub.broken ≡ true) }
-        ensures conns { OnOk result (Told (W.told wire.new) (ConnsAreOpen self.new.table.hub self.new.gone.items [])) }
-        ensures door { W.door wire.new ≡ W.door wire.old }
-        ensures faults { W.fault_count wire.new ≡ W.fault_count wire.old }
-        ensures mark { C.mark self.new.table.cable ≡ C.mark self.old.table.cable }
-        ensures trst { C.trst self.new.table.cable ≡ C.trst self.old.table.cable }
-        ensures cause { HasCause (C.fault_count self.old.table.cable) (C.fault_count self.new.table.cable) result }
-        ensures shuts { OnOk result (Both (W.told wire.old) (W.told wire.new) (ShutsFor self.old.table.hub.ended self.new.table.hub.ended)) }
-        ensures known { OnOk result (Both (W.told wire.old) (W.told wire.new) OnlyOpened) }
-    {
-        self.gone[grant] = true;
-        self.peer_gone(wire, grant)
-    }
-
-    // The peer was given so many bytes of the reply: whether these were all. Where not, the session is not ready.
-    fn gave(&mut self, grant: usize, count: usize) -> bool
-        requires whole { AreWhole self.old.table.hub self.old.gone.items }
-        requires calm { AreCalm self.old.table.hub self.old.gone.items }
-        requires grant { grant < length self.old.table.hub.seats }
-        requires count { count ≤ length (reply_at self.old.table.hub grant) }
-        ensures whole { AreWhole self.new.table.hub self.new.gone.items }
-        ensures made { KeepsMade self.old.table.hub self.new.table.hub }
-        ensures calm { AreCalm self.new.table.hub self.new.gone.items }
-        ensures same { SameSessions self.old.table.hub self.new.table.hub }
-        ensures all { result ≡ true → reply_at self.new.table.hub grant ≡ [] }
-        ensures gone { self.new.gone ≡ self.old.gone }
-        ensures cable { self.new.table.cable ≡ self.old.table.cable }
-        ensures ended { self.new.table.hub.ended ≡ self.old.table.hub.ended }
-    {
-        self.table.gave(grant, count);
-        let all = self.table.reply(grant).is_empty();
-        if !all {
-            self.table.set_ready(grant, false);
-        }
-        all
-    }
-
-    // One give of the pending reply, unless the chain is about to be handed on to the session: whether all of it went. Where not, the session is not
-    // ready.
-    fn give<W: Wire>(&mut self, wire: &mut W, grant: usize, conn: Conn) -> Result<bool, HubFault>
-        requires whole { AreWhole self.old.table.hub self.old.gone.items }
-        requires calm { AreCalm self.old.table.hub self.old.gone.items }
-        requires grant { grant < length self.old.table.hub.seats }
-        requires conns { Told (W.told wire.old) (ConnsAreOpen self.old.table.hub self.old.gone.items []) }
-        requires taken { is_taken (stand_at self.old.table.hub grant) ≡ true }
-        requires conn { conn ≡ conn_at self.old.table.hub grant }
-        ensures whole { AreWhole self.new.table.hub self.new.gone.items }
-        ensures made { KeepsMade self.old.table.hub self.new.table.hub }
-        ensures calm { OnOk result (AreCalm self.new.table.hub self.new.gone.items) }
-        ensures broken { OnErr result (self.new.table.hub.broken ≡ true) }
-        ensures conns { OnOk result (Told (W.told wire.new) (ConnsAreOpen self.new.table.hub self.new.gone.items [])) }
-        ensures door { W.door wire.new ≡ W.door wire.old }
-        ensures faults { W.fault_count wire.new ≡ W.fault_count wire.old }
-        ensures mark { C.mark self.new.table.cable ≡ C.mark self.old.table.cable }
-        ensures trst { C.trst self.new.table.cable ≡ C.trst self.old.table.cable }
-        ensures cause { HasCause (C.fault_count self.old.table.cable) (C.fault_count self.new.table.cable) result }
-        ensures all { IfOk result (λ all. all ≡ true → (SameSessions self.old.table.hub self.new.table.hub) × (reply_at self.new.table.hub grant ≡ [])) }
-        ensures rests { IfOk result (λ all. all ≡ true → next_of self.old.table.hub ≢ Some grant) }
-        ensures shuts { OnOk result (Both (W.told wire.old) (W.told wire.new) (ShutsFor self.old.table.hub.ended self.new.table.hub.ended)) }
-        ensures known { OnOk result (Both (W.told wire.old) (W.told wire.new) OnlyOpened) }
-    {
-        if self.table.next() == Some(grant) {
-            self.table.set_ready(grant, false);
-            return Ok(false);
-        }
-        let piece = self.table.reply(grant);
-        if piece.is_empty() {
-            return Ok(true);
-        }
-        match wire.give(conn, piece) {
-            Given::Bytes(count) => Ok(self.gave(grant, count)),
-            Given::NotNow => {
-                self.table.set_ready(grant, false);
-                Ok(false)
-            }
-            Given::Gone => {
-                self.lose(wire, grant)?;
-                Ok(false)
-            }
-        }
-    }
-
-    // After bytes were taken: where the session has not ended its replies are given, and it is ready where all went and it does not wait.
-    fn give_more<W: Wire>(&mut self, wire: &mut W, grant: usize) -> Result<(), HubFault>
-        requires whole { AreWhole self.old.table.hub self.old.gone.items }
-        requires calm { AreCalm self.old.table.hub self.old.gone.items }
-        requires grant { grant < length self.old.table.hub.seats }
-        requires conns { Told (W.told wire.old) (ConnsAreOpen self.old.table.hub self.old.gone.items []) }
-        ensures whole { AreWhole self.new.table.hub self.new.gone.items }
-        ensures made { KeepsMade self.old.table.hub self.new.table.hub }
-        ensures calm { OnOk result (AreCalm self.new.table.hub self.new.gone.items) }
-        ensures broken { OnErr result (self.new.table.hub.broken ≡ true) }
-        ensures conns { OnOk result (Told (W.told wire.new) (ConnsAreOpen self.new.table.hub self.new.gone.items [])) }
-        ensures door { W.door wire.new ≡ W.door wire.old }
-        ensures faults { W.fault_count wire.new ≡ W.fault_count wire.old }
-        ensures mark { C.mark self.new.table.cable ≡ C.mark self.old.table.cable }
-        ensures trst { C.trst self.new.table.cable ≡ C.trst self.old.table.cable }
-        ensures cause { HasCause (C.fault_count self.old.table.cable) (C.fault_count self.new.table.cable) result }
-        ensures shuts { OnOk result (Both (W.told wire.old) (W.told wire.new) (ShutsFor self.old.table.hub.ended self.new.table.hub.ended)) }
-        ensures known { OnOk result (Both (W.told wire.old) (W.told wire.new) OnlyOpened) }
-    {
-        let Some((conn, _)) = self.table.seat(grant) else {
-            return Ok(());
-        };
-        let all = self.give(wire, grant, conn)?;
-        let ready = all && self.is_going(grant);
-        self.table.set_ready(grant, ready);
-        Ok(())
-    }
-
-    // The session takes the bytes that came, and its replies are given.
-    fn use_bytes<W: Wire>(
-        &mut self,
-        wire: &mut W,
-        grant: usize,
-        piece: &[u8],
-    ) -> Result<(), HubFault>
-        requires whole { AreWhole self.old.table.hub self.old.gone.items }
-        requires calm { AreCalm self.old.table.hub self.old.gone.items }
-        requires grant { grant < length self.old.table.hub.seats }
-        requires conns { Told (W.told wire.old) (ConnsAreOpen self.old.table.hub self.old.gone.items []) }
-        requires going { stand_at self.old.table.hub grant ≡ Going }
-        requires given { reply_at self.old.table.hub grant ≡ [] }
-        requires some { 1 ≤ length piece.now }
-        requires wanted { length piece.now ≤ view_wants (view_at self.old.table.hub grant).session }
-        ensures whole { AreWhole self.new.table.hub self.new.gone.items }
-        ensures made { KeepsMade self.old.table.hub self.new.table.hub }
-        ensures calm { OnOk result (AreCalm self.new.table.hub self.new.gone.items) }
-        ensures broken { OnErr result (self.new.table.hub.broken ≡ true) }
-        ensures conns { OnOk result (Told (W.told wire.new) (ConnsAreOpen self.new.table.hub self.new.gone.items [])) }
-        ensures door { W.door wire.new ≡ W.door wire.old }
-        ensures faults { W.fault_count wire.new ≡ W.fault_count wire.old }
-        ensures mark { C.mark self.new.table.cable ≡ C.mark self.old.table.cable }
-        ensures trst { C.trst self.new.table.cable ≡ C.trst self.old.table.cable }
-        ensures cause { HasCause (C.fault_count self.old.table.cable) (C.fault_count self.new.table.cable) result }
-        ensures shuts { OnOk result (Both (W.told wire.old) (W.told wire.new) (ShutsFor self.old.table.hub.ended self.new.table.hub.ended)) }
-        ensures known { OnOk result (Both (W.told wire.old) (W.told wire.new) OnlyOpened) }
-    {
-        self.took(wire, grant, piece)?;
-        self.give_more(wire, grant)
-    }
-
-    // One take of as many bytes as the piece holds.
-    fn take_piece<W: Wire>(
-        &mut self,
-        wire: &mut W,
-        grant: usize,
-        conn: Conn,
-        piece: &mut [u8],
-    ) -> Result<(), HubFault>
-        requires whole { AreWhole self.old.table.hub self.old.gone.items }
-        requires calm { AreCalm self.old.table.hub self.old.gone.items }
-        requires grant { grant < length self.old.table.hub.seats }
-        requires rests { next_of self.old.table.hub ≢ Some grant }
-        requires conns { Told (W.told wire.old) (ConnsAreOpen self.old.table.hub self.old.gone.items []) }
-        requires going { stand_at self.old.table.hub grant ≡ Going }
-        requires given { reply_at self.old.table.hub grant ≡ [] }
-        requires conn { conn ≡ conn_at self.old.table.hub grant }
-        requires some { 0 < length piece.old }
-        requires wanted { length piece.old ≤ view_wants (view_at self.old.table.hub grant).session }
-        ensures whole { AreWhole self.new.table.hub self.new.gone.items }
-        ensures made { KeepsMade self.old.table.hub self.new.table.hub }
-        ensures calm { OnOk result (AreCalm self.new.table.hub self.new.gone.items) }
-        ensures broken { OnErr result (self.new.table.hub.broken ≡ true) }
-        ensures conns { OnOk result (Told (W.told wire.new) (ConnsAreOpen self.new.table.hub self.new.gone.items [])) }
-        ensures door { W.door wire.new ≡ W.door wire.old }
-        ensures faults { W.fault_count wire.new ≡ W.fault_count wire.old }
-        ensures mark { C.mark self.new.table.cable ≡ C.mark self.old.table.cable }
-        ensures trst { C.trst self.new.table.cable ≡ C.trst self.old.table.cable }
-        ensures cause { HasCause (C.fault_count self.old.table.cable) (C.fault_count self.new.table.cable) result }
-        ensures shuts { OnOk result (Both (W.told wire.old) (W.told wire.new) (ShutsFor self.old.table.hub.ended self.new.table.hub.ended)) }
-        ensures known { OnOk result (Both (W.told wire.old) (W.told wire.new) OnlyOpened) }
-    {
-        match wire.take(conn, piece) {
-            Taken::Bytes(count) => self.use_bytes(wire, grant, &piece[..count]),
-            Taken::NotNow => {
-                self.table.set_ready(grant, false);
-                Ok(())
-            }
-            Taken::Gone => self.lose(wire, grant),
-        }
-    }
-
-    // One take of as many bytes as the session wants, or as the buffer holds.
-    fn take<W: Wire>(
-        &mut self,
-        wire: &mut W,
-        grant: usize,
-        conn: Conn,
-        buffer: &mut [u8],
-    ) -> Result<(), HubFault>
-        requires whole { AreWhole self.old.table.hub self.old.gone.items }
-        requires calm { AreCalm self.old.table.hub self.old.gone.items }
-        requires grant { grant < length self.old.table.hub.seats }
-        requires rests { next_of self.old.table.hub ≢ Some grant }
-        requires conns { Told (W.told wire.old) (ConnsAreOpen self.old.table.hub self.old.gone.items []) }
-        requires going { stand_at self.old.table.hub grant ≡ Going }
-        requires given { reply_at self.old.table.hub grant ≡ [] }
-        requires conn { conn ≡ conn_at self.old.table.hub grant }
-        requires some { 0 < length buffer.old }
-        ensures whole { AreWhole self.new.table.hub self.new.gone.items }
-        ensures made { KeepsMade self.old.table.hub self.new.table.hub }
-        ensures calm { OnOk result (AreCalm self.new.table.hub self.new.gone.items) }
-        ensures broken { OnErr result (self.new.table.hub.broken ≡ true) }
-        ensures conns { OnOk result (Told (W.told wire.new) (ConnsAreOpen self.new.table.hub self.new.gone.items [])) }
-        ensures door { W.door wire.new ≡ W.door wire.old }
-        ensures faults { W.fault_count wire.new ≡ W.fault_count wire.old }
-        ensures mark { C.mark self.new.table.cable ≡ C.mark self.old.table.cable }
-        ensures trst { C.trst self.new.table.cable ≡ C.trst self.old.table.cable }
-        ensures cause { HasCause (C.fault_count self.old.table.cable) (C.fault_count self.new.table.cable) result }
-        ensures shuts { OnOk result (Both (W.told wire.old) (W.told wire.new) (ShutsFor self.old.table.hub.ended self.new.table.hub.ended)) }
-        ensures known { OnOk result (Both (W.told wire.old) (W.told wire.new) OnlyOpened) }
-    {
-        let want = self.table.want(grant).min(buffer.len());
-        self.take_piece(wire, grant, conn, &mut buffer[..want])
-    }
-
-    // After the pending replies were given: bytes are taken, where the session does not wait; where it does, it is not ready.
-    fn go_on<W: Wire>(
-        &mut self,
-        wire: &mut W,
-        grant: usize,
-        conn: Conn,
-        buffer: &mut [u8],
-    ) -> Result<(), HubFault>
-        requires whole { AreWhole self.old.table.hub self.old.gone.items }
-        requires calm { AreCalm self.old.table.hub self.old.gone.items }
-        requires grant { grant < length self.old.table.hub.seats }
-        requires rests { next_of self.old.table.hub ≢ Some grant }
-        requires conns { Told (W.told wire.old) (ConnsAreOpen self.old.table.hub self.old.gone.items []) }
-        requires given { reply_at self.old.table.hub grant ≡ [] }
-        requires conn { conn ≡ conn_at self.old.table.hub grant }
-        requires some { 0 < length buffer.old }
-        ensures whole { AreWhole self.new.table.hub self.new.gone.items }
-        ensures made { KeepsMade self.old.table.hub self.new.table.hub }
-        ensures calm { OnOk result (AreCalm self.new.table.hub self.new.gone.items) }
-        ensures broken { OnErr result (self.new.table.hub.broken ≡ true) }
-        ensures conns { OnOk result (Told (W.told wire.new) (ConnsAreOpen self.new.table.hub self.new.gone.items [])) }
-        ensures door { W.door wire.new ≡ W.door wire.old }
-        ensures faults { W.fault_count wire.new ≡ W.fault_count wire.old }
-        ensures mark { C.mark self.new.table.cable ≡ C.mark self.old.table.cable }
-        ensures trst { C.trst self.new.table.cable ≡ C.trst self.old.table.cable }
-        ensures cause { HasCause (C.fault_count self.old.table.cable) (C.fault_count self.new.table.cable) result }
-        ensures shuts { OnOk result (Both (W.told wire.old) (W.told wire.new) (ShutsFor self.old.table.hub.ended self.new.table.hub.ended)) }
-        ensures known { OnOk result (Both (W.told wire.old) (W.told wire.new) OnlyOpened) }
-    {
-        if self.is_going(grant) {
-            return self.take(wire, grant, conn, buffer);
-        }
-        self.table.set_ready(grant, false);
-        Ok(())
-    }
-
-    /// A grant's session is served once, where one is open: its pending replies are given; then it takes bytes and uses them, and the chain is
-    /// handed on; then its replies are given.
-    pub fn serve<W: Wire>(
-        &mut self,
-        wire: &mut W,
-        grant: usize,
-        buffer: &mut [u8],
-    ) -> Result<(), HubFault>
-        requires whole { AreWhole self.old.table.hub self.old.gone.items }
-        requires calm { AreCalm self.old.table.hub self.old.gone.items }
-        requires grant { grant < length self.old.table.hub.seats }
-        requires conns { Told (W.told wire.old) (ConnsAreOpen self.old.table.hub self.old.gone.items []) }
-        requires some { 0 < length buffer.old }
-        ensures whole { AreWhole self.new.table.hub self.new.gone.items }
-        ensures made { KeepsMade self.old.table.hub self.new.table.hub }
-        ensures calm { OnOk result (AreCalm self.new.table.hub self.new.gone.items) }
-        ensures broken { OnErr result (self.new.table.hub.broken ≡ true) }
-        ensures conns { OnOk result (Told (W.told wire.new) (ConnsAreOpen self.new.table.hub self.new.gone.items [])) }
-        ensures door { W.door wire.new ≡ W.door wire.old }
-        ensures faults { W.fault_count wire.new ≡ W.fault_count wire.old }
-        ensures mark { C.mark self.new.table.cable ≡ C.mark self.old.table.cable }
-        ensures trst { C.trst self.new.table.cable ≡ C.trst self.old.table.cable }
-        ensures cause { HasCause (C.fault_count self.old.table.cable) (C.fault_count self.new.table.cable) result }
-        ensures shuts { OnOk result (Both (W.told wire.old) (W.told wire.new) (ShutsFor self.old.table.hub.ended self.new.table.hub.ended)) }
-        ensures known { OnOk result (Both (W.told wire.old) (W.told wire.new) OnlyOpened) }
-    {
-        let Some((conn, _)) = self.table.seat(grant) else {
-            return Ok(());
-        };
-        if !self.give(wire, grant, conn)? {
-            return Ok(());
-        }
-        self.go_on(wire, grant, conn, buffer)
     }
 
     // A grant's session is served once, where it is ready.
@@ -589,6 +98,7 @@ impl<C: Cable> Sessions<C> {
         ensures cause { HasCause (C.fault_count self.old.table.cable) (C.fault_count self.new.table.cable) result }
         ensures shuts { OnOk result (Both (W.told wire.old) (W.told wire.new) (ShutsFor self.old.table.hub.ended self.new.table.hub.ended)) }
         ensures known { OnOk result (Both (W.told wire.old) (W.told wire.new) OnlyOpened) }
+        ensures stands { OnOk result (KeepsPlay self.old.table.hub self.new.table.hub (C.chain self.old.table.cable) (C.chain self.new.table.cable) (W.told wire.old) (W.told wire.new)) }
     {
         if self.table.is_ready(grant) {
             return self.serve(wire, grant, buffer);
@@ -615,6 +125,7 @@ impl<C: Cable> Sessions<C> {
         ensures cause { HasCause (C.fault_count self.old.table.cable) (C.fault_count self.new.table.cable) result }
         ensures shuts { OnOk result (Both (W.told wire.old) (W.told wire.new) (ShutsFor self.old.table.hub.ended self.new.table.hub.ended)) }
         ensures known { OnOk result (Both (W.told wire.old) (W.told wire.new) OnlyOpened) }
+        ensures stands { OnOk result (KeepsPlay self.old.table.hub self.new.table.hub (C.chain self.old.table.cable) (C.chain self.new.table.cable) (W.told wire.old) (W.told wire.new)) }
     {
         for grant in 0..self.table.layout().grants() {
             self.serve_ready(wire, grant, buffer)?;
@@ -671,6 +182,7 @@ impl<C: Cable> Sessions<C> {
         ensures cause { HasCause (C.fault_count self.old.table.cable) (C.fault_count self.new.table.cable) result }
         ensures shuts { OnOk result (Both (W.told wire.old) (W.told wire.new) (ShutsFor self.old.table.hub.ended self.new.table.hub.ended)) }
         ensures known { OnOk result (Both (W.told wire.old) (W.told wire.new) OnlyOpened) }
+        ensures stands { OnOk result (KeepsPlay self.old.table.hub self.new.table.hub (C.chain self.old.table.cable) (C.chain self.new.table.cable) (W.told wire.old) (W.told wire.new)) }
     {
         match self.grant_with(conn) {
             Some(grant) => self.serve(wire, grant, buffer),
@@ -705,6 +217,7 @@ impl<C: Cable> Sessions<C> {
         ensures gone { self.new.gone.items ≡ slice_set self.old.gone.items grant false }
         ensures cable { self.new.table.cable ≡ self.old.table.cable }
         ensures ended { self.new.table.hub.ended ≡ self.old.table.hub.ended }
+        ensures stands { (port : ℕ) (wire : Option WireView) → Told wire IsWire → grant_of self.old.table.hub.layout port ≡ Some grant → FollowsEvent (FoundNow (Opened conn port)) self.old.table.hub self.new.table.hub (C.chain self.old.table.cable) (C.chain self.new.table.cable) wire wire }
     {
         self.gone[grant] = false;
         self.table.open(grant, conn);
@@ -727,6 +240,7 @@ impl<C: Cable> Sessions<C> {
         ensures ended { self.new.table.hub.ended ≡ self.old.table.hub.ended }
         ensures shuts { Both (W.told wire.old) (W.told wire.new) (ShutsAfter (Opened conn port) self.old.table.hub []) }
         ensures known { Both (W.told wire.old) (W.told wire.new) OnlyOpened }
+        ensures stands { FollowsEvent (FoundNow (Opened conn port)) self.old.table.hub self.new.table.hub (C.chain self.old.table.cable) (C.chain self.new.table.cable) (W.told wire.old) (W.told wire.new) }
     {
         match self.free_grant(port) {
             Some(grant) => self.begin(grant, conn),
@@ -759,6 +273,7 @@ impl<C: Cable> Sessions<C> {
         ensures cause { HasCause (C.fault_count self.old.table.cable) (C.fault_count self.new.table.cable) result }
         ensures shuts { OnOk result (Both (W.told wire.old) (W.told wire.new) (ShutsAfter found self.old.table.hub self.new.table.hub.ended)) }
         ensures known { OnOk result (Both (W.told wire.old) (W.told wire.new) OnlyOpened) }
+        ensures stands { OnOk result (FollowsEvent (FoundNow found) self.old.table.hub self.new.table.hub (C.chain self.old.table.cable) (C.chain self.new.table.cable) (W.told wire.old) (W.told wire.new)) }
     {
         match found {
             Found::Opened(conn, port) => {
@@ -797,6 +312,7 @@ impl<C: Cable> Sessions<C> {
         ensures cause { HasCause (C.fault_count self.old.table.cable) (C.fault_count self.new.table.cable) result }
         ensures shuts { OnOk result (Both (W.told wire.old) (W.told wire.new) (ShutsAfter found self.old.table.hub self.new.table.hub.ended)) }
         ensures known { OnOk result (Both (W.told wire.old) (W.told wire.new) OnlyOpened) }
+        ensures stands { OnOk result (FollowsEvent (FoundNow found) self.old.table.hub self.new.table.hub (C.chain self.old.table.cable) (C.chain self.new.table.cable) (W.told wire.old) (W.told wire.new)) }
     {
         self.table.forget_ended();
         self.attend(wire, found, buffer)
@@ -821,6 +337,7 @@ impl<C: Cable> Sessions<C> {
         ensures cause { HasCause (C.fault_count self.old.table.cable) (C.fault_count self.new.table.cable) result }
         ensures shuts { OnOk result (Both (W.told wire.old) (W.told wire.new) (ShutsFor [] self.new.table.hub.ended)) }
         ensures known { OnOk result (Both (W.told wire.old) (W.told wire.new) OnlyOpened) }
+        ensures stands { OnOk result (KeepsPlay self.old.table.hub self.new.table.hub (C.chain self.old.table.cable) (C.chain self.new.table.cable) (W.told wire.old) (W.told wire.new)) }
     {
         self.table.forget_ended();
         self.rest(wire, buffer)

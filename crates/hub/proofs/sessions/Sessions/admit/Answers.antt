@@ -5,6 +5,7 @@ use Rattle.hub.proofs.Places.{admitted_below}
 use Rattle.hub.proofs.Beginning.{new_can, told_begun, turned_away}
 use Rattle.hub.proofs.Shutting.{away_shut}
 use Rattle.hub.proofs.OnTheWire.{known_can, shut_only}
+use Rattle.hub.proofs.Openings.{away_follows}
 use Rattle.hub.proofs.sessions.Sessions.admit.Goals as goal
 
 pub begin-requires-clause-grant : goal.begin-requires-clause-grant
@@ -25,3 +26,6 @@ returns-in-None-clause-shuts g c = away_shut c.args.conn c.args.port c.args.self
 
 pub returns-in-None-clause-known : goal.returns-in-None-clause-known
 returns-in-None-clause-known g c = known_can c.args.conn _ _ (new_can c.args.conn c.args.port c.args.self.now.table.hub _ c.requires.opens) (shut_only c.args.conn _ _ c.shut.ensures.told)
+
+pub returns-in-None-clause-stands : goal.returns-in-None-clause-stands
+returns-in-None-clause-stands g c = away_follows c.args.self.now.table.hub c.args.self.now.gone.items _ c.args.conn c.args.port _ _ c.requires.whole c.in-None.ensures (g.met.W.Wire.is_wire c.args.wire.now) (g.met.W.Wire.is_wire c.shut.new.self) c.shut.ensures.told

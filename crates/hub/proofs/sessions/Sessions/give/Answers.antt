@@ -5,6 +5,7 @@ use Rattle.hub.proofs.OnTheWire.{gave_none, give_lost}
 use Rattle.hub.proofs.Shutting.{give_shuts_none, shuts_then}
 use Rattle.hub.specs.Served.{is_gone}
 use Rattle.hub.proofs.OnTheWire.{given_only, in_use_open, known_open, known_then}
+use Rattle.hub.proofs.Giving.{bytes_keep, lost_keeps, none_keeps, some_bytes}
 use Rattle.hub.proofs.sessions.Sessions.give.Goals as goal
 
 pub lose-requires-clause-conns : goal.lose-requires-clause-conns
@@ -19,3 +20,15 @@ returns-in_ok-lose-in-Gone-clause-shuts g c = shuts_then _ c.args.self.now.table
 pub returns-in_ok-lose-in-Gone-clause-known : goal.returns-in_ok-lose-in-Gone-clause-known
 returns-in_ok-lose-in-Gone-clause-known g c = known_then _ _ _ (known_open c.args.conn (is_gone c.args.self.now.gone.items c.args.grant) _ _ (in_use_open c.args.self.now.table.hub c.args.self.now.gone.items c.args.grant c.args.conn _ c.requires.taken c.requires.conn c.requires.conns)
     (given_only c.args.conn (length c.reply-piece.result.now) Answer.Gone _ _ c.in-Gone.ensures.told)) c.in_ok-lose-in-Gone.ensures.known
+
+pub returns-in-Bytes-clause-stands : goal.returns-in-Bytes-clause-stands
+returns-in-Bytes-clause-stands g c = bytes_keep c.args.self.now.table.hub c.gave.new.self.table.hub c.args.self.now.gone.items c.args.grant c.args.conn c.in-Bytes.count c.reply-piece.result.now (g.C.Cable.chain c.args.self.now.table.cable) (g.C.Cable.chain c.gave.new.self.table.cable) (g.W.Wire.told c.args.wire.now) (g.W.Wire.told c.give.new.self)
+    c.requires.conn c.reply-piece.ensures (some_bytes (length c.reply-piece.result.now) c.if-is_empty.ensures) c.requires.conns c.in-Bytes.ensures.told c.gave.ensures.stands
+
+pub returns-in-NotNow-clause-stands : goal.returns-in-NotNow-clause-stands
+returns-in-NotNow-clause-stands g c = none_keeps (λ cable. g.C.Cable.chain cable) c.args.self.now.table c.set_ready-in-NotNow.new.self _ c.args.self.now.gone.items c.args.grant c.args.conn c.reply-piece.result.now (g.W.Wire.told c.args.wire.now) (g.W.Wire.told c.give.new.self)
+    c.set_ready-in-NotNow.ensures c.requires.whole c.requires.calm c.reply-piece.ensures (some_bytes (length c.reply-piece.result.now) c.if-is_empty.ensures) c.requires.conn c.requires.conns c.in-NotNow.ensures.told
+
+pub returns-in_ok-lose-in-Gone-clause-stands : goal.returns-in_ok-lose-in-Gone-clause-stands
+returns-in_ok-lose-in-Gone-clause-stands g c = lost_keeps c.args.self.now.table.hub c.lose.new.self.table.hub c.args.grant c.args.conn (length c.reply-piece.result.now) (g.C.Cable.chain c.args.self.now.table.cable) (g.C.Cable.chain c.lose.new.self.table.cable) (g.W.Wire.told c.args.wire.now) (g.W.Wire.told c.give.new.self) (g.W.Wire.told c.lose.new.wire)
+    c.requires.conn c.in-Gone.ensures.told c.in_ok-lose-in-Gone.ensures.stands

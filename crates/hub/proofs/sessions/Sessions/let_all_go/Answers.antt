@@ -3,6 +3,8 @@ use Rattle.plays.specs.Plays.{SessionEnd}
 use Rattle.session_table.specs.Tables.{TableView}
 use Rattle.session_table.specs.Shown.{session_end}
 use Rattle.hub.specs.Served.{ready_as}
+use Rattle.hub.specs.Standing.{StandsOnBut}
+use Rattle.hub.proofs.LettingGo.{let_more}
 use Rattle.hub.proofs.Shutting.{due_more, due_done}
 use Rattle.hub.proofs.SeatLists.{lets_more, nothing_left}
 use Rattle.hub.proofs.OnTheWire.{known_then, first_there, first_open, rest_left, rest_open}
@@ -29,9 +31,16 @@ loop-at-preserved g c = record {
   conns = rest_open c.args.self.now.table.hub c.args.self.now.gone.items _ _ (session_end c.ended_at-ended.result) _ _ (there c.args.self.now.table c.loop-at.self.table c.loop-at.at _ (session_end c.ended_at-ended.result) c.loop-at.invariant.table.table c.ended_at-ended.ensures) c.loop-at.invariant.left c.loop-at.invariant.conns c.let_go.ensures.only;
   due = due_more (drop c.args.earlier c.args.self.now.table.hub.ended) _ _ (session_end c.ended_at-ended.result) _ _ _ (there c.args.self.now.table c.loop-at.self.table c.loop-at.at _ (session_end c.ended_at-ended.result) c.loop-at.invariant.table.table c.ended_at-ended.ensures) c.loop-at.invariant.due c.let_go.ensures.shuts;
   known = known_then _ _ _ c.loop-at.invariant.known c.let_go.ensures.known;
+  stands = λ setting stands. let_more g.C.Cable.chain setting c.args.self.now.table c.loop-at.self.table c.let_go.new.self.table _ c.args.self.now.gone.items c.loop-at.self.gone.items c.loop-at.at (session_end c.ended_at-ended.result) _ _
+      c.loop-at.invariant.table.table (ap (λ gone. gone.items) c.loop-at.invariant.gone) (there c.args.self.now.table c.loop-at.self.table c.loop-at.at _ (session_end c.ended_at-ended.result) c.loop-at.invariant.table.table c.ended_at-ended.ensures)
+      c.loop-at.invariant.left c.loop-at.invariant.conns (c.let_go.ensures.stands setting) (c.loop-at.invariant.stands setting stands);
   door = c.let_go.ensures.door ∙ c.loop-at.invariant.door;
   faults = c.let_go.ensures.faults ∙ c.loop-at.invariant.faults;
 }
 
 pub returns-clause-shuts : goal.returns-clause-shuts
 returns-clause-shuts g c = due_done (drop c.args.earlier c.args.self.now.table.hub.ended) _ _ _ (nothing_left c.args.self.now.table.hub.ended c.loop-at.at (omega (arith, c.ended_count-at-end.ensures))) c.loop-at.invariant.due
+
+pub returns-clause-stands : goal.returns-clause-stands
+returns-clause-stands g c setting stands = subst (λ left. StandsOnBut setting left c.loop-at.self.table.hub (g.C.Cable.chain c.loop-at.self.table.cable) (g.W.Wire.told c.loop-at.wire))
+    (nothing_left c.args.self.now.table.hub.ended c.loop-at.at (omega (arith, c.ended_count-at-end.ensures))) (c.loop-at.invariant.stands setting stands)

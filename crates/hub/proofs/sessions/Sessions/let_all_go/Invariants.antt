@@ -1,7 +1,9 @@
 use Rattle.std.proofs.Common.{◌≡◌, drop, false}
 use Rattle.base_types.specs.Tellings.{Told, Both}
+use Rattle.plays.specs.Plays.{Setting}
 use Rattle.plays.specs.Schedule.{with_ready}
 use Rattle.hub.specs.Served.{AreLeft, ConnsAreOpen, OnlyOpened, grants_of}
+use Rattle.hub.specs.Standing.{StandsOnBut}
 use Rattle.hub.proofs.Shutting.{Due}
 use Rattle.hub.proofs.SeatLists.{LettingGo}
 use Rattle.hub.proofs.sessions.Sessions.let_all_go.Given as goal
@@ -14,6 +16,8 @@ invariant-loop-at g l = record {
   conns : Told (g.W.Wire.told l.wire) (ConnsAreOpen l.fn.self.table.hub l.fn.self.gone.items (drop l.at l.fn.self.table.hub.ended));
   due : Both (g.W.Wire.told l.fn.wire) (g.W.Wire.told l.wire) (Due (drop l.fn.earlier l.fn.self.table.hub.ended) (drop l.at l.fn.self.table.hub.ended));
   known : Both (g.W.Wire.told l.fn.wire) (g.W.Wire.told l.wire) OnlyOpened;
+  stands : (setting : Setting) → StandsOnBut setting (drop l.fn.earlier l.fn.self.table.hub.ended) l.fn.self.table.hub (g.C.Cable.chain l.fn.self.table.cable) (g.W.Wire.told l.fn.wire)
+      → StandsOnBut setting (drop l.at l.fn.self.table.hub.ended) l.self.table.hub (g.C.Cable.chain l.self.table.cable) (g.W.Wire.told l.wire);
   door : g.W.Wire.door l.wire ≡ g.W.Wire.door l.fn.wire;
   faults : g.W.Wire.fault_count l.wire ≡ g.W.Wire.fault_count l.fn.wire;
 }

@@ -6,6 +6,7 @@ use Rattle.hub.proofs.OnTheWire.{took_bytes, take_lost}
 use Rattle.hub.proofs.Shutting.{take_shuts_none, shuts_then_ok}
 use Rattle.hub.specs.Served.{is_gone}
 use Rattle.hub.proofs.OnTheWire.{in_use_open, known_open, known_then_ok, taken_only}
+use Rattle.hub.proofs.Events.{lost_keeps, none_keeps, took_keeps}
 use Rattle.hub.proofs.sessions.Sessions.take_piece.Goals as goal
 
 pub take-requires-clause-open : goal.take-requires-clause-open
@@ -30,3 +31,15 @@ returns-in-Bytes-clause-known g c = known_then_ok _ _ _ _ (known_open c.args.con
 pub returns-in-Gone-clause-known : goal.returns-in-Gone-clause-known
 returns-in-Gone-clause-known g c = known_then_ok _ _ _ _ (known_open c.args.conn (is_gone c.args.self.now.gone.items c.args.grant) _ _ (in_use_open c.args.self.now.table.hub c.args.self.now.gone.items c.args.grant c.args.conn _ (ap is_taken c.requires.going) c.requires.conn c.requires.conns)
     (taken_only c.args.conn Answer.Gone _ _ c.in-Gone.ensures.told)) c.lose.ensures.known
+
+pub returns-in-Bytes-clause-stands : goal.returns-in-Bytes-clause-stands
+returns-in-Bytes-clause-stands g c = took_keeps _ c.args.conn (take c.in-Bytes.count c.take.new.buf) c.args.self.now.table.hub c.use_bytes.new.self.table.hub (g.C.Cable.chain c.args.self.now.table.cable) (g.C.Cable.chain c.use_bytes.new.self.table.cable)
+    (g.W.Wire.told c.args.wire.now) (g.W.Wire.told c.take.new.self) (g.W.Wire.told c.use_bytes.new.wire) c.in-Bytes.ensures.told (rw c.requires.conn c.use_bytes.ensures.stands)
+
+pub returns-in-NotNow-clause-stands : goal.returns-in-NotNow-clause-stands
+returns-in-NotNow-clause-stands g c = none_keeps (λ cable. g.C.Cable.chain cable) c.args.self.now.table c.set_ready.new.self _ c.args.self.now.gone.items c.args.grant c.args.conn (g.W.Wire.told c.args.wire.now) (g.W.Wire.told c.take.new.self)
+    c.requires.calm.flagged c.requires.going c.requires.given c.requires.conn c.requires.conns c.in-NotNow.ensures.told c.set_ready.ensures
+
+pub returns-in-Gone-clause-stands : goal.returns-in-Gone-clause-stands
+returns-in-Gone-clause-stands g c = lost_keeps _ c.args.conn c.args.self.now.table.hub c.lose.new.self.table.hub (g.C.Cable.chain c.args.self.now.table.cable) (g.C.Cable.chain c.lose.new.self.table.cable)
+    (g.W.Wire.told c.args.wire.now) (g.W.Wire.told c.take.new.self) (g.W.Wire.told c.lose.new.wire) c.in-Gone.ensures.told (rw c.requires.conn c.lose.ensures.stands)

@@ -3,6 +3,7 @@ use Rattle.client_session.specs.Sessions.{is_taken}
 use Rattle.hub.specs.Served.{AreWhole, AreCalm}
 use Rattle.hub.proofs.AfterCalls.{calm_then, going_flagged, keeps_whole, left_from, open_from, went_flagged, whole_then}
 use Rattle.hub.proofs.Shutting.{shuts_beyond, shuts_moved}
+use Rattle.hub.proofs.Events.{took_from}
 use Rattle.hub.proofs.sessions.Sessions.took.Goals as goal
 
 pub settle-requires-clause-left : goal.settle-requires-clause-left
@@ -20,3 +21,9 @@ returns-clause-calm g c = subst (λ gone. AreCalm c.settle.new.self.table.hub go
 
 pub returns-clause-shuts : goal.returns-clause-shuts
 returns-clause-shuts g c = shuts_moved _ c.took.new.self.hub.ended _ _ _ (ap (λ table. table.hub.ended) c.settle.ensures.table) (shuts_beyond c.args.grant _ c.args.self.now.table.hub c.took.new.self.hub _ _ _ c.ended_count-earlier.ensures c.in_ok-took.ensures.went c.settle.ensures.shuts)
+
+pub returns-clause-stands : goal.returns-clause-stands
+returns-clause-stands g c = λ before event setting stands. c.settle.ensures.stands setting
+    (went_flagged c.args.grant _ c.args.self.now.table.hub c.took.new.self.hub c.args.self.now.gone.items c.in_ok-took.ensures.went (going_flagged c.args.self.now.table.hub c.args.self.now.gone.items c.args.grant c.requires.calm.flagged c.requires.going) (λ other ne taken. c.requires.calm.flagged other taken))
+    (took_from setting c.args.self.now.table.hub c.took.new.self.hub c.args.self.now.gone.items c.args.grant c.args.piece.now (g.C.Cable.chain c.args.self.now.table.cable) (g.C.Cable.chain c.took.new.self.cable) before (g.W.Wire.told c.args.wire.now) _ c.ended_count-earlier.ensures
+    c.requires.whole c.requires.calm.flagged c.requires.grant c.requires.going c.in_ok-took.ensures.kept c.in_ok-took.ensures.went c.in_ok-took.ensures.follows c.requires.conns (g.met.W.Wire.is_wire c.args.wire.now) event stands)

@@ -1,0 +1,17 @@
+use Rattle.std.proofs.Common.{ap}
+use Rattle.hub.specs.Standing.{opens_none}
+use Rattle.hub.proofs.Giving.{keeps_same}
+use Rattle.hub.proofs.Openings.{found_follows, found_follows_ok}
+use Rattle.hub.proofs.sessions.Sessions.attend.Goals as goal
+
+pub returns-in-Ready-clause-stands : goal.returns-in-Ready-clause-stands
+returns-in-Ready-clause-stands g c = found_follows_ok c.args.found c.args.self.now.table.hub c.serve_conn.new.self.table.hub (g.C.Cable.chain c.args.self.now.table.cable) (g.C.Cable.chain c.serve_conn.new.self.table.cable) (g.W.Wire.told c.args.wire.now) (g.W.Wire.told c.serve_conn.new.wire) c.serve_conn.result (ap opens_none c.in-Ready.is) c.serve_conn.ensures.stands
+
+pub returns-in-Room-clause-stands : goal.returns-in-Room-clause-stands
+returns-in-Room-clause-stands g c = found_follows_ok c.args.found c.args.self.now.table.hub c.serve_conn-in-Room.new.self.table.hub (g.C.Cable.chain c.args.self.now.table.cable) (g.C.Cable.chain c.serve_conn-in-Room.new.self.table.cable) (g.W.Wire.told c.args.wire.now) (g.W.Wire.told c.serve_conn-in-Room.new.wire) c.serve_conn-in-Room.result (ap opens_none c.in-Room.is) c.serve_conn-in-Room.ensures.stands
+
+pub returns-in-Nothing-clause-stands : goal.returns-in-Nothing-clause-stands
+returns-in-Nothing-clause-stands g c = found_follows c.args.found c.args.self.now.table.hub c.args.self.now.table.hub (g.C.Cable.chain c.args.self.now.table.cable) (g.C.Cable.chain c.args.self.now.table.cable) (g.W.Wire.told c.args.wire.now) (g.W.Wire.told c.args.wire.now) (ap opens_none c.in-Nothing.is) (keeps_same c.args.self.now.table.hub (g.C.Cable.chain c.args.self.now.table.cable) (g.W.Wire.told c.args.wire.now))
+
+pub returns-in-End-clause-stands : goal.returns-in-End-clause-stands
+returns-in-End-clause-stands g c = found_follows c.args.found c.args.self.now.table.hub c.args.self.now.table.hub (g.C.Cable.chain c.args.self.now.table.cable) (g.C.Cable.chain c.args.self.now.table.cable) (g.W.Wire.told c.args.wire.now) (g.W.Wire.told c.args.wire.now) (ap opens_none c.in-End.is) (keeps_same c.args.self.now.table.hub (g.C.Cable.chain c.args.self.now.table.cable) (g.W.Wire.told c.args.wire.now))
