@@ -1,56 +1,219 @@
 // A text that is seen as its bytes.
-ghost use Rattle.std.specs.Prelude.{◌≡◌, length, eqb, string_bytes};
+ghost use Rattle.std.specs.Prelude.{◌≡◌, ◌≤◌, ◌<◌, [], ◌∷◌, ◌++◌, length, map, eqb, string_bytes, encode_utf8, IsOk, IfOk, OnOk, OnErr};
+ghost use Rattle.std.specs.Str.{IsAscii};
+ghost use Rattle.std.specs.Char.{to_ascii_uppercase};
+ghost use Rattle.base_types.specs.Texts.{bytes_of};
 
+use arrayvec::ArrayString;
+use std::alloc::{AllocError, Global};
 use std::marker::Model;
+use std::str;
 
-/// A text that owns its bytes. Contracts see it as the plain list of these bytes, in UTF-8.
+// At most so many bytes take no memory.
+const INLINE: usize = 16;
+
+// The letters of a text: in the value itself where they are few.
+#[derive(Drop)]
+enum Letters {
+    Short(ArrayString<16>),
+    Long(String),
+}
+
+/// A text that owns its bytes. At most 16 lie in the value itself, and take no memory. Contracts see it as the plain list of its
+/// bytes, in UTF-8.
 #[derive(Drop)]
 pub struct Text {
-    string: String,
+    letters: Letters,
 }
 
 impl Model for Text {
-    ghost use Rattle.std.specs.Prelude.{List, ℕ, string_bytes};
+    ghost use Rattle.std.specs.Prelude.{List, ℕ};
 
     ghost Value = { List ℕ };
 
-    ghost view = { λ text. string_bytes text.string };
+    ghost use Rattle.base_types.specs.Texts.{bytes_of};
+
+    ghost view = { λ text. bytes_of text.letters };
 }
 
 impl Text {
+    /// The text of no letters.
+    pub fn new() -> Self
+        ensures { result ≡ [] }
+    {
+        Text {
+            letters: Letters::Short(ArrayString::new()),
+        }
+    }
+
     /// The text of this string. Takes no memory.
     pub fn from_string(string: String) -> Self
         ensures { result ≡ string_bytes string }
     {
-        Text { string }
+        Text {
+            letters: Letters::Long(string),
+        }
     }
 
-    /// The text as a string. Takes no memory.
-    pub fn into_string(self) -> String
-        ensures { string_bytes result ≡ self }
+    /// An equal text. Takes no memory for at most 16 bytes.
+    pub fn from_str(alloc: Global, text: &str) -> Result<Text, AllocError>
+        ensures ok { IfOk result (λ made. made ≡ text.now) }
+        ensures short { length text.now ≤ 16 → IsOk result }
     {
-        let Text { string } = self;
-        string
+        let letters = match ArrayString::from(text) {
+            Ok(short) => Letters::Short(short),
+            Err(_) => Letters::Long(String::from_str(alloc, text)?),
+        };
+        Ok(Text { letters })
+    }
+
+    /// The text of these ASCII bytes, its letters in capitals. Takes no memory for at most 16 bytes.
+    pub fn capitals(alloc: Global, letters: &[u8]) -> Result<Text, AllocError>
+        requires { IsAscii letters.now }
+        ensures ok { IfOk result (λ made. made ≡ map to_ascii_uppercase letters.now) }
+        ensures short { length letters.now ≤ 16 → IsOk result }
+    {
+        let letters = if letters.len() <= INLINE {
+            Letters::Short(short_capitals(letters))
+        } else {
+            Letters::Long(long_capitals(alloc, letters)?)
+        };
+        Ok(Text { letters })
     }
 
     /// The text, to be read.
     pub fn as_str(&self) -> &str
         ensures { result.now ≡ self.now }
     {
-        self.string.as_str()
+        match &self.letters {
+            Letters::Short(short) => short.as_str(),
+            Letters::Long(long) => long.as_str(),
+        }
     }
 
     /// How many bytes the text has.
     pub fn len(&self) -> usize
         ensures { result ≡ length self.now }
     {
-        self.string.len()
+        self.as_str().len()
     }
 
     /// Whether it has no byte.
     pub fn is_empty(&self) -> bool
         ensures { result ≡ eqb (length self.now) 0 }
     {
-        self.string.is_empty()
+        self.len() == 0
+    }
+
+    /// Puts a letter behind the others. Where there is no memory the text stays as it was.
+    pub fn push(&mut self, alloc: Global, letter: char) -> Result<(), AllocError>
+        ensures added { OnOk result (self.new ≡ self.old ++ encode_utf8 letter) }
+        ensures ascii { letter < 128 → OnOk result (self.new ≡ self.old ++ letter ∷ []) }
+        ensures kept { OnErr result (self.new ≡ self.old) }
+    {
+        push_letter(alloc, &mut self.letters, letter)
+    }
+}
+
+impl Default for Text {
+    ghost use Rattle.std.specs.Prelude.{◌≡◌, []};
+
+    ghost is_default = { λ text. text ≡ [] };
+
+    fn default() -> Self {
+        Text::new()
+    }
+}
+
+fn push_letter(alloc: Global, letters: &mut Letters, letter: char) -> Result<(), AllocError>
+    ensures added { OnOk result (bytes_of letters.new ≡ bytes_of letters.old ++ encode_utf8 letter) }
+    ensures ascii { letter < 128 → encode_utf8 letter ≡ letter ∷ [] }
+    ensures kept { OnErr result (bytes_of letters.new ≡ bytes_of letters.old) }
+{
+    match letters {
+        Letters::Short(short) => {
+            if short.try_push(letter).is_err() {
+                let long = with_letter(alloc, short.as_str(), letter)?;
+                *letters = Letters::Long(long);
+            }
+            Ok(())
+        }
+        Letters::Long(long) => long.push(letter),
+    }
+}
+
+// A string with one more letter, and with room for more.
+fn with_letter(alloc: Global, front: &str, letter: char) -> Result<String, AllocError>
+    ensures { IfOk result (λ string. string_bytes string ≡ front.now ++ encode_utf8 letter) }
+{
+    let mut string = String::with_capacity(alloc, 2 * INLINE)?;
+    string.push_str(front)?;
+    string.push(letter)?;
+    Ok(string)
+}
+
+fn short_capitals(letters: &[u8]) -> ArrayString<16>
+    requires ascii { IsAscii letters.now }
+    requires short { length letters.now ≤ 16 }
+    ensures { result.bytes ≡ map to_ascii_uppercase letters.now }
+{
+    let mut bytes = [0; INLINE];
+    for at in 0..letters.len() {
+        bytes[at] = letters[at].to_ascii_uppercase();
+    }
+    match str::from_utf8(&bytes[..letters.len()]) {
+        Ok(text) => {
+            let mut short = ArrayString::new();
+            short.push_str(text);
+            short
+        }
+        Err(_) => unreachable!(),
+    }
+}
+
+fn long_capitals(alloc: Global, letters: &[u8]) -> Result<String, AllocError>
+    requires { IsAscii letters.now }
+    ensures { IfOk result (λ string. string_bytes string ≡ map to_ascii_uppercase letters.now) }
+{
+    let mut bytes = Vec::with_capacity(alloc, letters.len())?;
+    for letter in letters {
+        bytes.push_reserved(letter.to_ascii_uppercase());
+    }
+    match String::from_utf8(bytes) {
+        Ok(string) => Ok(string),
+        Err(_) => unreachable!(),
+    }
+}
+
+#[cfg(test)]
+mod tests {
+    use super::*;
+    use std::mem;
+    use std::test::Fail;
+
+    #[test]
+    fn a_text_has_32_bytes(rt: HostRuntime) -> Result<(), Fail> {
+        assert_eq!(rt; mem::size_of::<Text>(), 32);
+        Ok(())
+    }
+
+    #[test]
+    fn letters_in_capitals_stay_where_they_are_few(rt: HostRuntime) -> Result<(), Fail> {
+        let few = Text::capitals(rt.alloc(), b"Bypass_register1")?;
+        assert_eq!(rt; few.as_str(), "BYPASS_REGISTER1");
+        let many = Text::capitals(rt.alloc(), b"Bypass_register12")?;
+        assert_eq!(rt; many.as_str(), "BYPASS_REGISTER12");
+        Ok(())
+    }
+
+    #[test]
+    fn a_text_grows_beyond_its_place(rt: HostRuntime) -> Result<(), Fail> {
+        let mut text = Text::from_str(rt.alloc(), "BYPASS_REGISTER")?;
+        text.push(rt.alloc(), 'é')?;
+        assert_eq!(rt; text.as_str(), "BYPASS_REGISTERé");
+        text.push(rt.alloc(), 'S')?;
+        assert_eq!(rt; text.as_str(), "BYPASS_REGISTERéS");
+        assert_eq!(rt; text.len(), 18);
+        Ok(())
     }
 }

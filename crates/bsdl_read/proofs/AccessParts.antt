@@ -62,7 +62,7 @@ written_front (Front.Ended entry) rest = written_access entry rest
 abbrev written_read : Read → List ℕ → List ℕ
 written_read r rest = followed written_access r.entries (written_front r.front rest)
 
-abbrev with_parts : AccessStage → List Access → List ℕ → Option ℕ → List ℕ → List ℕ → List (List ℕ) → Entries
+abbrev pub with_parts : AccessStage → List Access → List ℕ → Option ℕ → List ℕ → List ℕ → List (List ℕ) → Entries
 with_parts stage done register length number name instructions = record { stage = stage; done = done; register = register; length = length; number = number; name = name; instructions = instructions }
 
 abbrev worded : Entries → List ℕ → Entries
@@ -378,7 +378,7 @@ number_goes done register l rest is =
     ∙ over_blanks next_byte (with_parts stage.Bracketed done register (length_of (Some l)) [] [] []) (λ byte blank. rw blank refl) l.behind rest is.blank_behind
 
 -- a register up to the `(` of its names
-opened_goes : (done : List Access) (p : Padded) (length : Option LengthText) (rest : List ℕ) → IsPadded is_name p → MayHaveLength length
+pub opened_goes : (done : List Access) (p : Padded) (length : Option LengthText) (rest : List ℕ) → IsPadded is_name p → MayHaveLength length
     → through next_byte (with_parts stage.Entry done [] None [] [] []) (written_padded p (written_length length (40 ∷ rest))) ≡ through next_byte (with_parts stage.Instruction done (name_of p) (length_of length) [] [] []) rest
 opened_goes done p None rest is may = register_goes done p 40 (with_parts stage.Instruction done (name_of p) None [] [] []) rest is refl refl
 opened_goes done p (Some l) rest is may =
@@ -404,7 +404,7 @@ name_word done register length names (first ∷ more) behind sign next rest is b
     ∙ behind_blanks next_byte (with_parts stage.Name done register length [] (map capital (first ∷ more)) names) (with_parts stage.Named done register length [] (map capital (first ∷ more)) names) next sign
     (λ byte blank_is. rw (blank_no_word byte blank_is, other, blank_is) refl) (λ byte blank_is. rw blank_is refl) from_word from_behind behind rest blank)
 
-name_goes : (done : List Access) (register : List ℕ) (length : Option ℕ) (names : List (List ℕ)) (p : Padded) (sign : ℕ) (next : Entries) (rest : List ℕ) → IsPadded is_instruction p
+pub name_goes : (done : List Access) (register : List ℕ) (length : Option ℕ) (names : List (List ℕ)) (p : Padded) (sign : ℕ) (next : Entries) (rest : List ℕ) → IsPadded is_instruction p
     → in_word sign ≡ false → behind_name (with_parts stage.Name done register length [] (name_of p) names) sign ≡ Ok next → behind_name (with_parts stage.Named done register length [] (name_of p) names) sign ≡ Ok next
     → through next_byte (with_parts stage.Instruction done register length [] [] names) (written_padded p (sign ∷ rest)) ≡ through next_byte next rest
 name_goes done register length names p sign next rest is no_letter from_word from_behind =

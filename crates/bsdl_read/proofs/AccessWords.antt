@@ -7,7 +7,7 @@ use Rattle.bsdl_lex.specs.Tokens.{is_letter, in_word}
 use Rattle.bsdl_read.specs.Words.{capital}
 use Rattle.bsdl_read.specs.Contents.{and_then, through}
 use Rattle.bsdl_read.specs.ContentGrammar.{is_name}
-use Rattle.bsdl_read.specs.Accesses.{Entries, byte_at, next_byte, with_register_word, with_name_word}
+use Rattle.bsdl_read.specs.Accesses.{Entries, byte_at, next_byte, with_register_word, with_name_word, at_name}
 use Rattle.bsdl_read.specs.declared.accesses.AccessStage.{AccessStage}
 use Rattle.bsdl_read.specs.declared.accesses.AccessStage.TheVariants as stage
 use Rattle.bsdl_read.proofs.Spans.{letter_no_blank}
@@ -48,10 +48,10 @@ name_begins e (first ∷ more) rest due none is =
     ap (λ (st : AccessStage). further (more ++ rest) (byte_at st e first)) due
     ∙ rw (letter_no_blank first both.0, both.0) (ap (λ (name : List ℕ). through next_byte (in_name e (name ++ capital first ∷ [])) (more ++ rest)) none ∙ name_letters e (capital first ∷ []) more rest both.1)
 
-abbrev fine_result : Entries → Result Entries ℕ
+abbrev pub fine_result : Entries → Result Entries ℕ
 fine_result e = Ok e
 
-same_ok : (x y : Entries) → fine_result x ≡ fine_result y → x ≡ y
+pub same_ok : (x y : Entries) → fine_result x ≡ fine_result y → x ≡ y
 same_ok x y is = cc is
 
 pub register_is_read : (e after : Entries) (bytes word behind : List ℕ) → e.stage ≡ stage.Entry → e.register ≡ [] → fine_result (with_register_word e word) ≡ fine_result after → bytes ≡ word ++ behind → is_name word ≡ true
@@ -59,7 +59,7 @@ pub register_is_read : (e after : Entries) (bytes word behind : List ℕ) → e.
 register_is_read e after bytes word behind due none leads are is =
     ap (λ (x : Entries). through next_byte x behind) (sym (same_ok _ _ leads)) ∙ sym (register_begins e word behind due none is) ∙ ap (through next_byte e) (sym are)
 
-pub name_is_read : (e after : Entries) (bytes word behind : List ℕ) → e.stage ≡ stage.Instruction → e.name ≡ [] → fine_result (with_name_word e word) ≡ fine_result after → bytes ≡ word ++ behind → is_name word ≡ true
+pub name_is_read : (e after : Entries) (bytes word behind : List ℕ) → e ≡ at_name e → fine_result (with_name_word e word) ≡ fine_result after → bytes ≡ word ++ behind → is_name word ≡ true
     → through next_byte after behind ≡ through next_byte e bytes
-name_is_read e after bytes word behind due none leads are is =
-    ap (λ (x : Entries). through next_byte x behind) (sym (same_ok _ _ leads)) ∙ sym (name_begins e word behind due none is) ∙ ap (through next_byte e) (sym are)
+name_is_read e after bytes word behind due leads are is =
+    ap (λ (x : Entries). through next_byte x behind) (sym (same_ok _ _ leads)) ∙ sym (name_begins e word behind (ap (λ (x : Entries). x.stage) due) (ap (λ (x : Entries). x.name) due) is) ∙ ap (through next_byte e) (sym are)

@@ -1,34 +1,37 @@
 -- What stands whole at the front of a text.
-use Rattle.std.proofs.Common.{◌≡◌, ℕ, ◌≤◌, ◌==◌, true, false, List, [], ◌∷◌, ◌++◌, map, drop, length, sym, ap, ◌∙◌}
+use Rattle.std.proofs.Common.{◌≡◌, ℕ, ◌==◌, nat_lt, true, false, inl, inr, List, [], ◌∷◌, ◌++◌, map, length, refl, ap, ◌∙◌, arith}
 use Rattle.std.specs.List.{list_all}
-use Rattle.std.specs.Str.{IsAscii, IsUtf8}
-use Rattle.std.proofs.lemmas.Bool.{and_parts, and_from}
-use Rattle.std.proofs.lemmas.Str.{IsUtf8-from_ascii}
+use Rattle.std.specs.Str.{IsAscii}
+use Rattle.std.specs.Char.{to_ascii_uppercase}
+use Rattle.std.proofs.lemmas.Bool.{and_parts, and_from, cases_Bool, ltb-true, ltb-false, lt-ltb, le-ltb}
 use Rattle.std.proofs.lemmas.Str.Ascii.{IsAscii-nil, IsAscii-cons}
-use Rattle.std.proofs.lemmas.List.{append-nil}
-use Rattle.std.proofs.Math.ListN.{drop_of_length-le}
 use Rattle.bsdl_lex.specs.Tokens.{is_letter, in_word}
 use Rattle.bsdl_read.specs.Words.{capital}
 use Rattle.bsdl_read.specs.Contents.{is_pattern_digit}
 use Rattle.bsdl_read.specs.ContentGrammar.{are_spaces, is_name, is_pattern}
 use Rattle.bsdl_read.specs.Opcodes.{BeginsWith}
-use Rattle.bsdl_read.proofs.Bytes.{capital_byte}
+use Rattle.bsdl_read.proofs.Bytes.{word_byte}
 
-capitals_are_ascii : (letters : List ℕ) → list_all in_word letters ≡ true → IsAscii (map capital letters)
-capitals_are_ascii [] all = IsAscii-nil
-capitals_are_ascii (letter ∷ letters) all =
+-- letters, digits and `_` are ASCII
+pub word_is_ascii : (letters : List ℕ) → list_all in_word letters ≡ true → IsAscii letters
+word_is_ascii [] all = IsAscii-nil
+word_is_ascii (letter ∷ letters) all =
     let both = and_parts (in_word letter) (list_all in_word letters) all in
-    IsAscii-cons (capital letter) (map capital letters) (capital_byte letter both.0) (capitals_are_ascii letters both.1)
+    IsAscii-cons letter letters (word_byte letter both.0) (word_is_ascii letters both.1)
 
--- a name in capitals is text
-name_is_text : (letters : List ℕ) → list_all in_word letters ≡ true → IsUtf8 (map capital letters)
-name_is_text letters all = IsUtf8-from_ascii (map capital letters) (capitals_are_ascii letters all)
+capital_is_upper : (byte : ℕ) → to_ascii_uppercase byte ≡ capital byte
+capital_is_upper byte = elim (cases_Bool (nat_lt byte 97)) [
+  | inl small ↦ rw small refl
+  | inr large ↦ elim (cases_Bool (nat_lt 122 byte)) [
+    | inl above ↦ rw (large, above, le-ltb byte 123 (omega (arith, ltb-true 122 byte above))) refl
+    | inr within ↦ rw (large, within, lt-ltb byte 123 (omega (arith, ltb-false 122 byte within))) refl
+  ]
+]
 
--- what was written so far, where nothing is left
-pub written_is_text : (written letters : List ℕ) (count : ℕ) → written ++ map capital (drop count letters) ≡ map capital letters → length letters ≤ count → list_all in_word letters ≡ true → IsUtf8 written
-written_is_text written letters count is most all =
-    let same : written ≡ map capital letters = sym (append-nil written) ∙ ap (λ (x : List ℕ). written ++ map capital x) (sym (drop_of_length-le letters most)) ∙ is in
-    rw same (name_is_text letters all)
+-- the letters of a word in capitals
+pub capitals_are_upper : (letters : List ℕ) → map to_ascii_uppercase letters ≡ map capital letters
+capitals_are_upper [] = refl
+capitals_are_upper (letter ∷ letters) = ap (λ (first : ℕ). first ∷ map to_ascii_uppercase letters) (capital_is_upper letter) ∙ ap (λ (rest : List ℕ). capital letter ∷ rest) (capitals_are_upper letters)
 
 pub name_from : (name : List ℕ) (first : ℕ) (more : List ℕ) → name ≡ first ∷ more → is_letter first ≡ true → list_all in_word name ≡ true → is_name name ≡ true
 name_from [] first more is letter all = absurd (cc is)

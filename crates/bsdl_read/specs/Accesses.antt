@@ -1,6 +1,6 @@
 -- The content of REGISTER_ACCESS: entries joined by `,`; an entry is a register, `(`, names joined by `,`, and `)`; a register is a name
 -- or `name [ number ]`. Left out of the subset, with a cause of their own: the word CAPTURES behind a name, and the instruction RUNBIST.
-use Rattle.std.specs.Prelude.{ℕ, ◌==◌, List, [], ◌∷◌, ◌++◌, map, codes, string_bytes, if◌then◌else◌, Result, Ok, Err}
+use Rattle.std.specs.Prelude.{◌≡◌, ℕ, ◌==◌, Bool, true, false, List, [], ◌∷◌, ◌++◌, map, codes, if◌then◌else◌, Result, Ok, Err}
 use Rattle.std.specs.declared.option.Option.{Option}
 use Rattle.std.specs.declared.option.Option.TheVariants.{None, Some}
 use Rattle.bsdl_lex.specs.declared.Token.{Token}
@@ -8,6 +8,7 @@ use Rattle.bsdl_lex.specs.Tokens.{is_letter, is_digit, in_word}
 use Rattle.part_model.specs.declared.plan.Access.{Access}
 use Rattle.bsdl_read.specs.Words.{capital, same_word}
 use Rattle.bsdl_read.specs.Contents.{and_then, is_space, through_all, whole_number}
+use Rattle.bsdl_read.specs.ContentGrammar.{Padded, written_padded, IsPadded, is_name, LengthText, written_length, MayHaveLength, length_of, is_instruction}
 use Rattle.bsdl_read.specs.declared.accesses.AccessStage.{AccessStage}
 use Rattle.bsdl_read.specs.declared.accesses.AccessStage.TheVariants as stage
 use Rattle.bsdl_read.specs.declared.accesses.AccessReading.{AccessReading}
@@ -127,8 +128,12 @@ closed_at _ e = Err 8
 abbrev pub closed : Entries → Result (List Access) ℕ
 closed e = closed_at e.stage e
 
+-- whole entries, and nothing of the next
+abbrev pub with_entries : List Access → Entries
+with_entries done = record { stage = stage.Entry; done = done; register = []; length = None; number = []; name = []; instructions = [] }
+
 abbrev pub no_entries : Entries
-no_entries = record { stage = stage.Entry; done = []; register = []; length = None; number = []; name = []; instructions = [] }
+no_entries = with_entries []
 
 -- the entries of the tokens of a VALUE, or cause 8 or 9
 abbrev pub accesses : List ℕ → List Token → Result (List Access) ℕ
@@ -144,6 +149,47 @@ with_register_word e word = record e { stage = stage.Register; register = map ca
 abbrev pub with_name_word : Entries → List ℕ → Entries
 with_name_word e word = record e { stage = stage.Name; name = map capital word }
 
+-- an instruction is due, and nothing of its name was read
+abbrev pub at_name : Entries → Entries
+at_name e = record e { stage = stage.Instruction; number = []; name = [] }
+
+-- a register with or without its length, and the `(` of its names
+abbrev pub with_opened : Entries → List ℕ → Option ℕ → Entries
+with_opened e word length = record e { stage = stage.Instruction; register = map capital word; length = length }
+
+-- a whole name, which may be the last of its entry
+abbrev pub with_named : Entries → List ℕ → Bool → Entries
+with_named e word true = with_entry (record e { name = map capital word })
+with_named e word false = with_name (record e { name = map capital word })
+
+-- the bytes begin with a length in brackets, or with none
+pub record HasLength (bytes : List ℕ) (length : Option ℕ) (behind : List ℕ) : Type 0 where
+  pub text : Option LengthText
+  pub are : bytes ≡ written_length text behind
+  pub says : length_of text ≡ length
+  pub has_length : MayHaveLength text
+
+-- the bytes begin with a register, with or without its length, and the `(` of its names
+pub record OpensWith (bytes word : List ℕ) (length : Option ℕ) (behind : List ℕ) : Type 0 where
+  pub register : Padded
+  pub text : Option LengthText
+  pub are : bytes ≡ written_padded register (written_length text (40 ∷ behind))
+  pub is_word : register.inside ≡ word
+  pub says : length_of text ≡ length
+  pub has_register : IsPadded is_name register
+  pub has_length : MayHaveLength text
+
+-- behind the last name of an entry stands `)`, behind each other `,`
+abbrev pub sign_behind : Bool → ℕ
+sign_behind is_last = if is_last then 41 else 44
+
+-- the bytes begin with an instruction, and the sign behind it
+pub record NamesOne (bytes word : List ℕ) (is_last : Bool) (behind : List ℕ) : Type 0 where
+  pub name : Padded
+  pub are : bytes ≡ written_padded name (sign_behind is_last ∷ behind)
+  pub is_word : name.inside ≡ word
+  pub has_name : IsPadded is_instruction name
+
 -- what the code keeps
 abbrev pub view : AccessReading → Entries
-view r = record { stage = r.stage; done = r.done.items; register = string_bytes r.register; length = r.length; number = r.number.items; name = string_bytes r.name; instructions = r.instructions.items }
+view r = record { stage = r.stage; done = r.done.items; register = r.register; length = r.length; number = r.number.items; name = r.name; instructions = r.instructions }

@@ -1,5 +1,5 @@
 -- The content of INSTRUCTION_OPCODE: entries joined by `,`; an entry is a name, `(`, patterns joined by `,`, and `)`.
-use Rattle.std.specs.Prelude.{◌≡◌, ℕ, Bool, true, false, ◌==◌, List, [], ◌∷◌, ◌++◌, map, reverse, string_bytes, if◌then◌else◌, Result, Ok, Err}
+use Rattle.std.specs.Prelude.{◌≡◌, ℕ, Bool, true, false, ◌==◌, List, [], ◌∷◌, ◌++◌, map, reverse, if◌then◌else◌, Result, Ok, Err}
 use Rattle.bsdl_lex.specs.declared.Token.{Token}
 use Rattle.bsdl_lex.specs.Tokens.{is_letter, in_word}
 use Rattle.part_model.specs.declared.Digit.{Digit}
@@ -91,4 +91,4 @@ with_whole e name digits = record e { stage = stage.Closed; done = e.done ++ rec
 
 -- what the code keeps
 abbrev pub view : OpcodeReading → Entries
-view r = record { stage = r.stage; done = r.done.items; name = string_bytes r.name; patterns = r.patterns.items; digits = r.digits.items }
+view r = record { stage = r.stage; done = r.done.items; name = r.name; patterns = r.patterns.items; digits = r.digits.items }

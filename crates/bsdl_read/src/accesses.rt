@@ -1,20 +1,15 @@
 // The content of REGISTER_ACCESS.
-ghost use Rattle.std.specs.Prelude.{◌≡◌, ◌<◌, ◌++◌, [], true, length, string_bytes, IsTrue, IfOk, IfErr, IfSome, Ok};
-ghost use Rattle.std.specs.List.{list_all};
+ghost use Rattle.std.specs.Prelude.{◌≡◌, true, length, Ok};
 ghost use Rattle.bsdl_lex.specs.Tokens as t;
 ghost use Rattle.bsdl_lex.specs.Tokens.{SpansRise};
 ghost use Rattle.bsdl_read.specs.Contents as c;
 ghost use Rattle.bsdl_read.specs.Accesses as a;
-ghost use Rattle.bsdl_read.specs.ContentGrammar.{is_name};
-ghost use Rattle.bsdl_read.specs.declared.accesses.AccessStage.TheVariants.{Entry, Instruction};
 
-use crate::contents::{
-    ContentFault, add_letter, departs_unless, inside, is_space, name_of, split_run, whole_number,
-};
+use crate::contents::{ContentFault, add_letter, departs_unless, is_space, whole_number};
 use crate::words::same_word;
-use base_types::{Items, Text};
+use base_types::Text;
 use bsdl_lex::{Token, in_word, is_digit, is_letter};
-use part_model::Access;
+use part_model::{Access, Names};
 use std::alloc::Global;
 use std::mem;
 
@@ -40,11 +35,11 @@ pub enum AccessStage {
 pub struct AccessReading {
     pub stage: AccessStage,
     pub done: Vec<Access>,
-    pub register: String,
+    pub register: Text,
     pub length: Option<u32>,
     pub number: Vec<u8>,
-    pub name: String,
-    pub instructions: Vec<Text>,
+    pub name: Text,
+    pub instructions: Names,
 }
 
 // The cause of a word behind a name.
@@ -52,29 +47,6 @@ fn word_cause(word: &[u8]) -> u8
     ensures { result ≡ a.word_cause word.now }
 {
     if same_word(word, b"CAPTURES") { 9 } else { 8 }
-}
-
-// A word, and the bytes behind it.
-#[derive(Clone, Copy)]
-struct FrontWord<'a> {
-    word: &'a [u8],
-    behind: &'a [u8],
-}
-
-// The word at the front, as far as it stands there.
-fn front_word(bytes: &[u8]) -> Option<FrontWord<'_>>
-    ensures is { IfSome result (λ front. bytes.now ≡ front.word.now ++ front.behind.now) }
-    ensures name { IfSome result (λ front. is_name front.word.now ≡ true) }
-    ensures letters { IfSome result (λ front. list_all t.in_word front.word.now ≡ true) }
-    ensures less { IfSome result (λ front. length front.behind.now < length bytes.now) }
-{
-    let (word, behind) = split_run(bytes, in_word);
-    let (first, _) = word.split_first()?;
-    if is_letter(*first) {
-        Some(FrontWord { word, behind })
-    } else {
-        None
-    }
 }
 
 impl AccessReading {
@@ -85,21 +57,21 @@ impl AccessReading {
         Ok(())
     }
 
-    fn register_letter(&mut self, byte: u8) -> Result<(), ContentFault>
+    fn register_letter(&mut self, alloc: Global, byte: u8) -> Result<(), ContentFault>
         requires { t.in_word byte ≡ true }
         ensures { c.Steps (a.view self.new) result (Ok (a.with_register (a.view self.old) byte)) }
     {
         self.stage = AccessStage::Register;
-        add_letter(&mut self.register, byte)?;
+        add_letter(alloc, &mut self.register, byte)?;
         Ok(())
     }
 
-    fn letter(&mut self, stage: AccessStage, byte: u8) -> Result<(), ContentFault>
+    fn letter(&mut self, alloc: Global, stage: AccessStage, byte: u8) -> Result<(), ContentFault>
         requires { t.in_word byte ≡ true }
         ensures { c.Steps (a.view self.new) result (Ok (a.with_letter (a.view self.old) stage byte)) }
     {
         self.stage = stage;
-        add_letter(&mut self.name, byte)?;
+        add_letter(alloc, &mut self.name, byte)?;
         Ok(())
     }
 
@@ -109,8 +81,8 @@ impl AccessReading {
         ensures { c.Steps (a.view self.new) result (Ok (a.with_word (a.view self.old) byte)) }
     {
         self.stage = AccessStage::Word;
-        self.name = String::new(alloc);
-        add_letter(&mut self.name, byte)?;
+        self.name = Text::new();
+        add_letter(alloc, &mut self.name, byte)?;
         Ok(())
     }
 
@@ -133,31 +105,26 @@ impl AccessReading {
         Ok(())
     }
 
-    // A name ends, and another is due. The first of an entry takes the memory of one, since most entries have one.
-    fn name(&mut self, alloc: Global) -> Result<(), ContentFault>
+    // A name ends, and another is due.
+    pub fn name(&mut self) -> Result<(), ContentFault>
         ensures { c.Steps (a.view self.new) result (Ok (a.with_name (a.view self.old))) }
     {
         self.stage = AccessStage::Instruction;
-        if self.instructions.is_empty() {
-            self.instructions = Vec::with_capacity(alloc, 1)?;
-        }
-        let name = mem::replace(&mut self.name, String::new(alloc));
-        self.instructions.push(Text::from_string(name))?;
+        self.instructions
+            .push(mem::replace(&mut self.name, Text::new()))?;
         Ok(())
     }
 
     // An entry ends with its last name.
-    fn entry(&mut self, alloc: Global) -> Result<(), ContentFault>
+    pub fn entry(&mut self, alloc: Global) -> Result<(), ContentFault>
         ensures { c.Steps (a.view self.new) result (Ok (a.with_entry (a.view self.old))) }
     {
-        self.name(alloc)?;
+        self.name()?;
         self.stage = AccessStage::Closed;
-        let register = mem::replace(&mut self.register, String::new(alloc));
-        let instructions = mem::replace(&mut self.instructions, Vec::new(alloc));
         self.done.push(Access {
-            register: Text::from_string(register),
+            register: mem::replace(&mut self.register, Text::new()),
             length: self.length,
-            instructions: Items::from_vec(instructions),
+            instructions: mem::replace(&mut self.instructions, Names::new(alloc)),
         })?;
         self.length = None;
         Ok(())
@@ -200,7 +167,7 @@ impl AccessReading {
             return self.to(AccessStage::Named);
         }
         if byte == b',' {
-            return self.name(alloc);
+            return self.name();
         }
         if byte == b')' {
             return self.entry(alloc);
@@ -215,18 +182,18 @@ impl AccessReading {
     fn whole_name(&mut self, alloc: Global, byte: u8) -> Result<(), ContentFault>
         ensures { c.Steps (a.view self.new) result (a.whole_name (a.view self.old) byte) }
     {
-        if same_word(self.name.as_bytes(), b"RUNBIST") {
+        if same_word(self.name.as_str().as_bytes(), b"RUNBIST") {
             return Err(ContentFault::Departs(9));
         }
         self.behind_name(alloc, byte)
     }
 
     // One more byte of a register.
-    fn register_byte(&mut self, alloc: Global, byte: u8) -> Result<(), ContentFault>
+    pub fn register_byte(&mut self, alloc: Global, byte: u8) -> Result<(), ContentFault>
         ensures { c.Steps (a.view self.new) result (a.next_byte (a.view self.old) byte) }
     {
         match self.stage {
-            AccessStage::Register if in_word(byte) => self.register_letter(byte),
+            AccessStage::Register if in_word(byte) => self.register_letter(alloc, byte),
             AccessStage::Register | AccessStage::Registered => self.behind_register(alloc, byte),
             AccessStage::Open | AccessStage::Number if is_digit(byte) => self.digit(byte),
             AccessStage::Number => self.behind_number(byte),
@@ -245,100 +212,22 @@ impl AccessReading {
         ensures { c.Steps (a.view self.new) result (a.next_byte (a.view self.old) byte) }
     {
         match self.stage {
-            AccessStage::Entry if is_letter(byte) => self.register_letter(byte),
-            AccessStage::Instruction if is_letter(byte) => self.letter(AccessStage::Name, byte),
-            AccessStage::Name if in_word(byte) => self.letter(AccessStage::Name, byte),
+            AccessStage::Entry if is_letter(byte) => self.register_letter(alloc, byte),
+            AccessStage::Instruction if is_letter(byte) => self.letter(
+                alloc,
+                AccessStage::Name,
+                byte,
+            ),
+            AccessStage::Name if in_word(byte) => self.letter(alloc, AccessStage::Name, byte),
             AccessStage::Name => self.whole_name(alloc, byte),
             AccessStage::Named => self.behind_name(alloc, byte),
-            AccessStage::Word if in_word(byte) => self.letter(AccessStage::Word, byte),
-            AccessStage::Word => Err(ContentFault::Departs(word_cause(self.name.as_bytes()))),
+            AccessStage::Word if in_word(byte) => self.letter(alloc, AccessStage::Word, byte),
+            AccessStage::Word => Err(ContentFault::Departs(word_cause(
+                self.name.as_str().as_bytes(),
+            ))),
             AccessStage::Closed if byte == b',' => self.to(AccessStage::Entry),
             _ => departs_unless(is_space(byte)),
         }
-    }
-
-    // Whether an entry is due, and nothing of its register was read.
-    fn awaits_register(&self) -> bool
-        ensures stage { IsTrue result → self.now.stage ≡ Entry }
-        ensures none { IsTrue result → string_bytes self.now.register ≡ [] }
-    {
-        matches!(self.stage, AccessStage::Entry) && self.register.is_empty()
-    }
-
-    // Whether an instruction is due, and nothing of its name was read.
-    fn awaits_name(&self) -> bool
-        ensures stage { IsTrue result → self.now.stage ≡ Instruction }
-        ensures none { IsTrue result → string_bytes self.now.name ≡ [] }
-    {
-        matches!(self.stage, AccessStage::Instruction) && self.name.is_empty()
-    }
-
-    // All letters of a register that stand in one text.
-    fn register_word(&mut self, alloc: Global, word: &[u8]) -> Result<(), ContentFault>
-        requires { list_all t.in_word word.now ≡ true }
-        ensures { c.Steps (a.view self.new) result (Ok (a.with_register_word (a.view self.old) word.now)) }
-    {
-        self.stage = AccessStage::Register;
-        self.register = name_of(alloc, word)?;
-        Ok(())
-    }
-
-    // All letters of a name that stand in one text.
-    fn name_word(&mut self, alloc: Global, word: &[u8]) -> Result<(), ContentFault>
-        requires { list_all t.in_word word.now ≡ true }
-        ensures { c.Steps (a.view self.new) result (Ok (a.with_name_word (a.view self.old) word.now)) }
-    {
-        self.stage = AccessStage::Name;
-        self.name = name_of(alloc, word)?;
-        Ok(())
-    }
-
-    // What stands at the front, the letters of a name or one byte. Answers the bytes behind it.
-    fn next<'a>(&mut self, alloc: Global, bytes: &'a [u8]) -> Result<&'a [u8], ContentFault>
-        requires { 0 < length bytes.now }
-        ensures goes { IfOk result (λ behind. c.through a.next_byte (a.view self.new) behind.now ≡ c.through a.next_byte (a.view self.old) bytes.now) }
-        ensures less { IfOk result (λ behind. length behind.now < length bytes.now) }
-        ensures fault { IfErr result (λ fault. c.Refuses fault (c.through a.next_byte (a.view self.old) bytes.now)) }
-    {
-        if self.awaits_register() {
-            if let Some(front) = front_word(bytes) {
-                self.register_word(alloc, front.word)?;
-                return Ok(front.behind);
-            }
-        }
-        if self.awaits_name() {
-            if let Some(front) = front_word(bytes) {
-                self.name_word(alloc, front.word)?;
-                return Ok(front.behind);
-            }
-        }
-        let Some((byte, behind)) = bytes.split_first() else {
-            unreachable!()
-        };
-        self.register_byte(alloc, *byte)?;
-        Ok(behind)
-    }
-
-    // The bytes of one text of the content.
-    fn bytes(&mut self, alloc: Global, bytes: &[u8]) -> Result<(), ContentFault>
-        ensures { c.Steps (a.view self.new) result (c.through a.next_byte (a.view self.old) bytes.now) }
-    {
-        let mut rest = bytes;
-        while !rest.is_empty() {
-            rest = self.next(alloc, rest)?;
-        }
-        Ok(())
-    }
-
-    // The texts of the content.
-    fn tokens(&mut self, alloc: Global, text: &[u8], tokens: &[Token]) -> Result<(), ContentFault>
-        requires { SpansRise 0 tokens.now (length text.now) }
-        ensures { c.Steps (a.view self.new) result (c.through_all a.next_byte text.now (a.view self.old) tokens.now) }
-    {
-        for token in tokens {
-            self.bytes(alloc, inside(text, *token))?;
-        }
-        Ok(())
     }
 
     // The content ends.
@@ -347,8 +236,12 @@ impl AccessReading {
     {
         match self.stage {
             AccessStage::Closed => Ok(self.done),
-            AccessStage::Name => Err(ContentFault::Departs(name_cause(self.name.as_bytes()))),
-            AccessStage::Word => Err(ContentFault::Departs(word_cause(self.name.as_bytes()))),
+            AccessStage::Name => Err(ContentFault::Departs(name_cause(
+                self.name.as_str().as_bytes(),
+            ))),
+            AccessStage::Word => Err(ContentFault::Departs(word_cause(
+                self.name.as_str().as_bytes(),
+            ))),
             _ => Err(ContentFault::Departs(8)),
         }
     }
@@ -369,11 +262,11 @@ pub fn accesses(alloc: Global, text: &[u8], tokens: &[Token]) -> Result<Vec<Acce
     let mut reading = AccessReading {
         stage: AccessStage::Entry,
         done: Vec::new(alloc),
-        register: String::new(alloc),
+        register: Text::new(),
         length: None,
         number: Vec::new(alloc),
-        name: String::new(alloc),
-        instructions: Vec::new(alloc),
+        name: Text::new(),
+        instructions: Names::new(alloc),
     };
     reading.tokens(alloc, text, tokens)?;
     reading.closed()

@@ -1,5 +1,5 @@
 // What stands between the quotes of a VALUE, and numbers.
-ghost use Rattle.std.specs.Prelude.{ℕ, Bool, ◌≡◌, ◌==◌, ◌<◌, ◌≤◌, ◌-◌, ◌++◌, ◌∷◌, ◌^◌, [], true, false, length, map, reverse, string_bytes, if◌then◌else◌, OnOk, IfOk, IfSome};
+ghost use Rattle.std.specs.Prelude.{ℕ, Bool, ◌≡◌, ◌==◌, ◌<◌, ◌≤◌, ◌-◌, ◌++◌, ◌∷◌, ◌^◌, [], true, false, length, map, reverse, if◌then◌else◌, OnOk, IfOk, IfSome};
 ghost use Rattle.std.specs.List.{list_all};
 ghost use Rattle.std.specs.Option.{is_some};
 ghost use Rattle.bsdl_lex.specs.Tokens as t;
@@ -8,6 +8,7 @@ ghost use Rattle.bsdl_read.specs.Contents as c;
 ghost use Rattle.bsdl_read.specs.declared.contents.ContentFault.TheVariants.{Memory};
 
 use crate::words::{capital, spelled};
+use base_types::Text;
 use bsdl_lex::{Token, TokenKind, is_digit};
 use part_model::{CodePattern, Digit};
 use std::alloc::{AllocError, AllocFailed, Global};
@@ -69,11 +70,11 @@ pub fn departs_unless(allowed: bool) -> Result<(), ContentFault>
 }
 
 // A letter, a digit or `_` joins a name, in capitals.
-pub fn add_letter(name: &mut String, byte: u8) -> Result<(), AllocError>
+pub fn add_letter(alloc: Global, name: &mut Text, byte: u8) -> Result<(), AllocError>
     requires { t.in_word byte ≡ true }
-    ensures { OnOk result (string_bytes name.new ≡ string_bytes name.old ++ w.capital byte ∷ []) }
+    ensures { OnOk result (name.new ≡ name.old ++ w.capital byte ∷ []) }
 {
-    name.push(capital(byte) as char)
+    name.push(alloc, capital(byte) as char)
 }
 
 // The bytes at the front that pass a test, and those behind them.
@@ -102,18 +103,11 @@ pub fn behind_sign(bytes: &[u8], sign: u8) -> Option<&[u8]>
 }
 
 // The letters of a name in capitals.
-pub fn name_of(alloc: Global, letters: &[u8]) -> Result<String, AllocError>
+pub fn name_of(alloc: Global, letters: &[u8]) -> Result<Text, AllocError>
     requires { list_all t.in_word letters.now ≡ true }
-    ensures { IfOk result (λ name. string_bytes name ≡ map w.capital letters.now) }
+    ensures { IfOk result (λ name. name ≡ map w.capital letters.now) }
 {
-    let mut bytes = Vec::with_capacity(alloc, letters.len())?;
-    for letter in letters {
-        bytes.push_reserved(capital(*letter));
-    }
-    match String::from_utf8(bytes) {
-        Ok(name) => Ok(name),
-        Err(_) => unreachable!(),
-    }
+    Text::capitals(alloc, letters)
 }
 
 // A pattern of these digits, of which the rightmost is the lowest.
@@ -168,7 +162,7 @@ fn digit_value(byte: u8) -> u32
 }
 
 // The number of so many digits, the first the highest.
-fn number_of(bytes: &[u8]) -> u32
+pub fn number_of(bytes: &[u8]) -> u32
     requires short { length bytes.now < 10 }
     requires digits { list_all t.is_digit bytes.now ≡ true }
     ensures { result ≡ c.number_from 0 bytes.now }

@@ -1,6 +1,7 @@
 //! Device types out of BSDL texts (IEEE 1149.1, Annex B).
 #![tactic(auto)]
 
+mod access_fronts;
 mod accesses;
 mod contents;
 mod laws;

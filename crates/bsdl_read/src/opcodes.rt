@@ -34,7 +34,7 @@ pub enum OpcodeStage {
 pub struct OpcodeReading {
     pub stage: OpcodeStage,
     pub done: Vec<Opcode>,
-    pub name: String,
+    pub name: Text,
     pub patterns: Vec<Pattern>,
     pub digits: Vec<Digit>,
 }
@@ -81,12 +81,12 @@ impl OpcodeReading {
         Ok(())
     }
 
-    fn letter(&mut self, byte: u8) -> Result<(), ContentFault>
+    fn letter(&mut self, alloc: Global, byte: u8) -> Result<(), ContentFault>
         requires { t.in_word byte ≡ true }
         ensures { c.Steps (o.view self.new) result (Ok (o.with_letter (o.view self.old) byte)) }
     {
         self.stage = OpcodeStage::Name;
-        add_letter(&mut self.name, byte)?;
+        add_letter(alloc, &mut self.name, byte)?;
         Ok(())
     }
 
@@ -118,11 +118,9 @@ impl OpcodeReading {
     {
         self.pattern(alloc)?;
         self.stage = OpcodeStage::Closed;
-        let name = String::from_str(alloc, &self.name)?;
-        self.name.clear();
         let patterns = mem::replace(&mut self.patterns, Vec::new(alloc));
         self.done.push(Opcode {
-            name: Text::from_string(name),
+            name: mem::replace(&mut self.name, Text::new()),
             patterns: Patterns::from_vec(patterns),
         })?;
         Ok(())
@@ -160,8 +158,8 @@ impl OpcodeReading {
         ensures { c.Steps (o.view self.new) result (o.next_byte (o.view self.old) byte) }
     {
         match self.stage {
-            OpcodeStage::Entry if is_letter(byte) => self.letter(byte),
-            OpcodeStage::Name if in_word(byte) => self.letter(byte),
+            OpcodeStage::Entry if is_letter(byte) => self.letter(alloc, byte),
+            OpcodeStage::Name if in_word(byte) => self.letter(alloc, byte),
             OpcodeStage::Name | OpcodeStage::Named => self.behind_name(byte),
             OpcodeStage::Pattern | OpcodeStage::Digits if is_pattern_digit(byte) => self.digit(
                 byte,
@@ -193,7 +191,7 @@ impl OpcodeReading {
         let name = name_of(alloc, letters)?;
         self.stage = OpcodeStage::Closed;
         self.done.push(Opcode {
-            name: Text::from_string(name),
+            name,
             patterns: Patterns::one(alloc, pattern_of(digits)),
         })?;
         Ok(())
@@ -250,7 +248,7 @@ pub fn opcodes(alloc: Global, text: &[u8], tokens: &[Token]) -> Result<Vec<Opcod
     let mut reading = OpcodeReading {
         stage: OpcodeStage::Entry,
         done: Vec::new(alloc),
-        name: String::new(alloc),
+        name: Text::new(),
         patterns: Vec::new(alloc),
         digits: Vec::new(alloc),
     };

@@ -249,11 +249,11 @@ fn accepted(alloc: Global, values: &Values, plan: PartPlan) -> Result<Part, Bsdl
 fn capitals(alloc: Global, word: &[u8]) -> Result<Text, AllocError>
     ensures { IfOk result (λ text. text ≡ r.capitals word.now) }
 {
-    let mut string = String::new(alloc);
+    let mut text = Text::new();
     for byte in word {
-        string.push(capital(*byte) as char)?;
+        text.push(alloc, capital(*byte) as char)?;
     }
-    Ok(Text::from_string(string))
+    Ok(text)
 }
 
 // The entity of a text whose structure is known.

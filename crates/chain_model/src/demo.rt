@@ -7,15 +7,14 @@ ghost use Rattle.chain_model.specs.Demo.{demo_board, demo_opcodes, demo_access};
 
 use crate::cable::Board;
 use base_types::{Items, Text};
-use part_model::{Access, Digit, Opcode, Part, PartPlan, Pattern, Patterns};
+use part_model::{Access, Digit, Names, Opcode, Part, PartPlan, Pattern, Patterns};
 use scan_bits::Bits;
 use std::alloc::{AllocError, Global};
 
 pub(crate) fn text(alloc: Global, name: &str) -> Result<Text, AllocError>
     ensures { IfOk result (λ text. text ≡ name.now) }
 {
-    let string = String::from_str(alloc, name)?;
-    Ok(Text::from_string(string))
+    Text::from_str(alloc, name)
 }
 
 fn digit(bit: bool) -> Digit
@@ -66,10 +65,10 @@ pub(crate) fn opcodes(alloc: Global) -> Result<Items<Opcode>, AllocError>
 fn access(alloc: Global) -> Result<Items<Access>, AllocError>
     ensures { IfOk result (λ access. access ≡ demo_access) }
 {
-    let mut pins = Vec::new(alloc);
+    let mut pins = Names::new(alloc);
     pins.push(text(alloc, "EXTEST")?)?;
     pins.push(text(alloc, "SAMPLE")?)?;
-    let mut user = Vec::new(alloc);
+    let mut user = Names::new(alloc);
     user.push(text(alloc, "USER1")?)?;
     let boundary = text(alloc, "BOUNDARY")?;
     let named = text(alloc, "USER")?;
@@ -77,12 +76,12 @@ fn access(alloc: Global) -> Result<Items<Access>, AllocError>
     access.push(Access {
         register: boundary,
         length: None,
-        instructions: Items::from_vec(pins),
+        instructions: pins,
     })?;
     access.push(Access {
         register: named,
         length: Some(8),
-        instructions: Items::from_vec(user),
+        instructions: user,
     })?;
     Ok(Items::from_vec(access))
 }

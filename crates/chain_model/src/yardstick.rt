@@ -7,7 +7,7 @@ use crate::cable::Board;
 use crate::demo::{opcodes, pattern, text};
 use crate::{Bench, Cable, Chain};
 use base_types::Items;
-use part_model::{Access, Part, PartPlan};
+use part_model::{Access, Names, Part, PartPlan};
 use scan_bits::Bits;
 use std::alloc::{AllocError, Global};
 use std::mem;
@@ -165,20 +165,20 @@ impl PlainChain {
 
 fn access(alloc: Global, user: u32) -> Result<Items<Access>, AllocError> {
     let mut access = Vec::new(alloc);
-    let mut pins = Vec::new(alloc);
+    let mut pins = Names::new(alloc);
     pins.push(text(alloc, "EXTEST")?)?;
     pins.push(text(alloc, "SAMPLE")?)?;
     access.push(Access {
         register: text(alloc, "BOUNDARY")?,
         length: None,
-        instructions: Items::from_vec(pins),
+        instructions: pins,
     })?;
-    let mut named = Vec::new(alloc);
+    let mut named = Names::new(alloc);
     named.push(text(alloc, "USER1")?)?;
     access.push(Access {
         register: text(alloc, "USER")?,
         length: Some(user),
-        instructions: Items::from_vec(named),
+        instructions: named,
     })?;
     Ok(Items::from_vec(access))
 }

@@ -4,8 +4,10 @@ pub mod MaskLaws
 pub mod PlaceLaws
 pub mod NameIndexLaws
 pub mod ResetLaws
+pub mod SelectionLaws
 pub mod NumberLaws
 pub mod PartLaws
 pub mod Ranges
+pub mod CodeTableLaws
 pub mod Accepted
 pub mod CauseLaws

@@ -1,7 +1,6 @@
 -- Indexes of names, one name on.
-use Rattle.std.proofs.Common.{◌≡◌, ◌<◌, length, replicate, ℕ, zero, suc, ◌+◌, ◌∷◌, unwrap_or, arith, Bool, true, false, not, cond, inl, inr, List, if◌then◌else◌, refl, sym, ap, subst, ◌∙◌, ◌&&◌, ◌||◌, ◌++◌, []}
+use Rattle.std.proofs.Common.{◌≡◌, ◌<◌, length, length-append, map, drop, replicate, ℕ, zero, suc, ◌+◌, ◌∷◌, unwrap_or, arith, Bool, true, false, cond, inl, inr, List, if◌then◌else◌, refl, sym, ap, subst, ◌∙◌, ◌&&◌, ◌||◌, ◌++◌, []}
 use Rattle.std.specs.Borrow.{Bor}
-use Rattle.std.specs.List.{list_any}
 use Rattle.std.specs.Prelude.{slice_index_or, slice_set}
 use Rattle.std.specs.BTreeMap.{get_by, BTreeMap}
 use Rattle.std.specs.Cmp.{tied_then, nat_cmp_is}
@@ -22,10 +21,10 @@ use Rattle.part_model.specs.declared.name_index.Slot.{Slot}
 use Rattle.part_model.specs.declared.name_index.Slot.TheVariants.{Empty}
 use Rattle.std.proofs.lemmas.List.{length-set, get_or-set_other, get_or_default}
 use Rattle.std.proofs.lemmas.Grind.{get_or-set_at}
-use Rattle.part_model.specs.NameIndexes.{hash_from, place, value_among, value_at, value_of, Lack, Lengths, Mentions}
+use Rattle.part_model.specs.NameIndexes.{hash_from, place, value_among, value_at, value_of, filled, told, Lists, Awaits, Mentions, Knows}
 use Rattle.part_model.specs.Parts.{NamedRegister, named_of, same_name}
-use Rattle.part_model.specs.Plans.{AccessEntry, is_listed, mentioned, names_known, length_named, place_of_name}
-use Rattle.part_model.proofs.PlaceLaws.{equal_bytes, same_is, same_self}
+use Rattle.part_model.specs.Plans.{AccessEntry, OpcodeEntry, is_listed, names_known, length_named, place_of_name}
+use Rattle.part_model.proofs.PlaceLaws.{equal_bytes, same_is, same_self, length-named_of}
 
 pub swapped : (xs ys : List ℕ) → same_name xs ys ≡ same_name ys xs
 swapped xs ys = sym (equal_bytes xs ys) ∙ nat_list_eq_equiv.symm xs ys ∙ equal_bytes ys xs
@@ -74,41 +73,102 @@ own_value several name hash is other same = ap (λ own. get_by (λ key. ordering
 
 -- ---- one slot
 
-kept_case : {V : Type 0} (test : Bool) (first value : V) → value_if test first ≡ option_or (value_if test first) (value_if test value)
-kept_case true first value = refl
-kept_case false first value = refl
+pub no_more : {V : Type 0} (old : Option V) → option_or old None ≡ old
+no_more None = refl
+no_more (Some value) = refl
 
--- the name is there
-pub same_kept : {V : Type 0} (kept name other : List ℕ) (first value : V) → same_name name kept ≡ true → value_if (same_name other kept) first ≡ option_or (value_if (same_name other kept) first) (value_if (same_name other name) value)
-same_kept kept name other first value same = kept_case (same_name other kept) first value
-    ∙ ap (λ found. option_or (value_if (same_name other kept) first) (value_if (same_name other found) value)) (sym (same_is name kept same))
+more_or : {V : Type 0} (old more : Option V) → is_some old ≡ true → old ≡ option_or old more
+more_or None more some = absurd (cc some)
+more_or (Some value) more some = refl
 
-removed_name : {V : Type 0} (test other_test : Bool) (value : V) → (test ≡ true → other_test ≡ false) → value_if other_test value ≡ (if test then None else value_if other_test value)
-removed_name true other_test value apart = ap (λ found. value_if found value) (apart refl)
-removed_name false other_test value apart = refl
+-- the name has a value
+pub known_stays : {V : Type 0} (old : List ℕ → Option V) (name other : List ℕ) (value : V) → is_some (old name) ≡ true → old other ≡ option_or (old other) (value_if (same_name other name) value)
+known_stays old name other value some = elim (cases_Bool (same_name other name)) [
+  | inl same ↦ more_or (old other) (value_if (same_name other name) value) (ap (λ (found : List ℕ). is_some (old found)) (same_is other name same) ∙ some)
+  | inr apart ↦ sym (no_more (old other)) ∙ ap (λ test. option_or (old other) (value_if test value)) (sym apart)
+]
 
-removed_self : {V : Type 0} (test : Bool) (value : V) → None ≡ (if test then None else value_if test value)
-removed_self true value = refl
-removed_self false value = refl
+pub one_there : {V : Type 0} (test : Bool) (value : V) → test ≡ true → is_some (value_if test value) ≡ true
+one_there true value is = refl
+one_there false value is = absurd (cc is)
 
--- the name goes
-pub kept_removed : {V : Type 0} (kept name other : List ℕ) (value : V) → same_name name kept ≡ true → None ≡ (if same_name other name then None else value_if (same_name other kept) value)
-kept_removed kept name other value same = removed_self (same_name other name) value
-    ∙ ap (λ found. if same_name other name then None else value_if (same_name other found) value) (same_is name kept same)
+pub first_there : {V : Type 0} (first second : Bool) (value other : V) → first ≡ true → is_some (option_or (value_if first value) (value_if second other)) ≡ true
+first_there true second value other is = refl
+first_there false second value other is = absurd (cc is)
 
--- another name stays
-pub other_kept : {V : Type 0} (kept name other : List ℕ) (value : V) → same_name name kept ≡ false → value_if (same_name other kept) value ≡ (if same_name other name then None else value_if (same_name other kept) value)
-other_kept kept name other value apart = removed_name (same_name other name) (same_name other kept) value (λ same. ap (λ found. same_name found kept) (same_is other name same) ∙ apart)
+pub second_there : {V : Type 0} (first second : Bool) (value other : V) → second ≡ true → is_some (option_or (value_if first value) (value_if second other)) ≡ true
+second_there true second value other is = refl
+second_there false true value other is = refl
+second_there false false value other is = absurd (cc is)
+
+there_case : {V : Type 0} (test : Bool) (value : V) → is_some (value_if test value) ≡ true → test ≡ true
+there_case true value some = refl
+there_case false value some = absurd (cc some)
+
+put_case : {V : Type 0} (test : Bool) (old value : V) → value_if test value ≡ (if test then Some value else value_if test old)
+put_case true old value = refl
+put_case false old value = refl
+
+-- another value where one name stands
+pub one_put : {V : Type 0} (kept name other : List ℕ) (old value : V) → is_some (value_if (same_name name kept) old) ≡ true → value_if (same_name other kept) value ≡ (if same_name other name then Some value else value_if (same_name other kept) old)
+one_put kept name other old value some = put_case (same_name other kept) old value
+    ∙ ap (λ found. if same_name other found then Some value else value_if (same_name other kept) old) (sym (same_is name kept (there_case (same_name name kept) old some)))
+
+first_case : {V : Type 0} (test : Bool) (old value : V) (more : Option V) → option_or (value_if test value) more ≡ (if test then Some value else option_or (value_if test old) more)
+first_case true old value more = refl
+first_case false old value more = refl
+
+-- another value for the first of two names
+pub first_put : {V : Type 0} (first second name other : List ℕ) (old value more : V) → same_name name first ≡ true → option_or (value_if (same_name other first) value) (value_if (same_name other second) more) ≡ (if same_name other name then Some value else option_or (value_if (same_name other first) old) (value_if (same_name other second) more))
+first_put first second name other old value more same = first_case (same_name other first) old value (value_if (same_name other second) more)
+    ∙ ap (λ found. if same_name other found then Some value else option_or (value_if (same_name other first) old) (value_if (same_name other second) more)) (sym (same_is name first same))
+
+stands_second : {V : Type 0} (first second : Bool) (value other : V) → first ≡ false → is_some (option_or (value_if first value) (value_if second other)) ≡ true → second ≡ true
+stands_second true second value other apart some = absurd (cc apart)
+stands_second false second value other apart some = there_case second other some
+
+second_case : {V : Type 0} (first second : Bool) (front old value : V) → (second ≡ true → first ≡ false) → option_or (value_if first front) (value_if second value) ≡ (if second then Some value else option_or (value_if first front) (value_if second old))
+second_case true true front old value apart = absurd (cc (apart refl))
+second_case false true front old value apart = refl
+second_case first false front old value apart = refl
+
+-- another value for the second of two names
+pub second_put : {V : Type 0} (first second name other : List ℕ) (front old value : V) → same_name name first ≡ false → is_some (option_or (value_if (same_name name first) front) (value_if (same_name name second) old)) ≡ true
+    → option_or (value_if (same_name other first) front) (value_if (same_name other second) value) ≡ (if same_name other name then Some value else option_or (value_if (same_name other first) front) (value_if (same_name other second) old))
+second_put first second name other front old value apart some =
+    let is : name ≡ second = same_is name second (stands_second (same_name name first) (same_name name second) front old apart some) in
+    second_case (same_name other first) (same_name other second) front old value (λ same. ap (λ found. same_name found first) (same_is other second same ∙ sym is) ∙ apart)
+    ∙ ap (λ found. if same_name other found then Some value else option_or (value_if (same_name other first) front) (value_if (same_name other second) old)) (sym is)
+
+fill_case : {V : Type 0} (test : Bool) (old : Option (Option V)) (value : V) → (test ≡ true → old ≡ filled true value old) → old ≡ filled test value old
+fill_case true old value same = same refl
+fill_case false old value same = refl
+
+-- the name does not stand there
+pub none_filled : {V : Type 0} (old : List ℕ → Option (Option V)) (name other : List ℕ) (value : V) → old name ≡ None → old other ≡ filled (same_name other name) value (old other)
+none_filled old name other value none = fill_case (same_name other name) (old other) value (λ same.
+    let is : old other ≡ None = ap old (same_is other name same) ∙ none in
+    is ∙ ap (filled true value) (sym is))
+
+-- the name has a value
+pub kept_filled : {V : Type 0} (old : List ℕ → Option (Option V)) (name other : List ℕ) (value kept : V) → old name ≡ Some (Some kept) → old other ≡ filled (same_name other name) value (old other)
+kept_filled old name other value kept some = fill_case (same_name other name) (old other) value (λ same.
+    let is : old other ≡ Some (Some kept) = ap old (same_is other name same) ∙ some in
+    is ∙ ap (filled true value) (sym is))
+
+filled_case : {V : Type 0} (test : Bool) (old new : Option (Option V)) (value : V) → (test ≡ true → old ≡ Some None) → new ≡ (if test then Some (Some value) else old) → new ≡ filled test value old
+filled_case true old new value awaits is = is ∙ ap (filled true value) (sym (awaits refl))
+filled_case false old new value awaits is = is
+
+-- the name stands without a value
+pub one_filled : {V : Type 0} (old : List ℕ → Option (Option V)) (new : Option (Option V)) (name other : List ℕ) (value : V) → old name ≡ Some None → new ≡ (if same_name other name then Some (Some value) else old other) → new ≡ filled (same_name other name) value (old other)
+one_filled old new name other value awaits is = filled_case (same_name other name) (old other) new value (λ same. ap old (same_is other name same) ∙ awaits) is
 
 -- ---- one slot of all
 
 other_test : (test : Bool) {V : Type 0} (f : Bool → Option V → Option V) (old : Option V) → ((value : Option V) → f false value ≡ value) → test ≡ false → old ≡ f test old
 other_test true f old stays is = absurd (cc is)
 other_test false f old stays is = sym (stays old)
-
-pub no_more : {V : Type 0} (old : Option V) → option_or old None ≡ old
-no_more None = refl
-no_more (Some value) = refl
 
 -- an empty slot at each place
 pub all_empty : {V : Type 0} (count at : ℕ) → slice_index_or {A = Slot V} (replicate count Empty) at Empty ≡ Empty
@@ -153,66 +213,48 @@ pub slot_added : {V : Type 0} (slots : List (Slot V)) (at : ℕ) (old new : Slot
 slot_added slots at old new name value is within there added = slot_changed (λ test found. option_or found (value_if test value)) no_more slots at new name is within
     (λ other. added other ∙ ap (λ slot. option_or (value_at slot other) (value_if (same_name other name) value)) (there ∙ get_or_default slots at old Empty within))
 
--- one name less
-pub slot_removed : {V : Type 0} (slots : List (Slot V)) (at : ℕ) (old new : Slot V) (name : List ℕ) → at ≡ place name (length slots) → at < length slots → old ≡ slice_index_or slots at old
-    → ((other : List ℕ) → value_at new other ≡ (if same_name other name then None else value_at old other))
-    → (other : List ℕ) → value_at (slice_index_or (slice_set slots at new) (place other (length (slice_set slots at new))) Empty) other ≡ (if same_name other name then None else value_at (slice_index_or slots (place other (length slots)) Empty) other)
-slot_removed slots at old new name is within there removed = slot_changed (λ test found. if test then None else found) (λ value. refl) slots at new name is within
-    (λ other. removed other ∙ ap (λ slot. if same_name other name then None else value_at slot other) (there ∙ get_or_default slots at old Empty within))
+-- a value for a name that may stand without one
+pub slot_filled : {V : Type 0} (slots : List (Slot (Option V))) (at : ℕ) (old new : Slot (Option V)) (name : List ℕ) (value : V) → at ≡ place name (length slots) → at < length slots → old ≡ slice_index_or slots at old
+    → ((other : List ℕ) → value_at new other ≡ filled (same_name other name) value (value_at old other))
+    → (other : List ℕ) → value_at (slice_index_or (slice_set slots at new) (place other (length (slice_set slots at new))) Empty) other ≡ filled (same_name other name) value (value_at (slice_index_or slots (place other (length slots)) Empty) other)
+slot_filled slots at old new name value is within there done = slot_changed (λ test found. filled test value found) (λ found. refl) slots at new name is within
+    (λ other. done other ∙ ap (λ slot. filled (same_name other name) value (value_at slot other)) (there ∙ get_or_default slots at old Empty within))
 
--- ---- one access more
+-- ---- the instructions that have an opcode
 
-pub one_access : {V : Type 0} (test : Bool) (register : V) (old more : Option V) → option_or (option_or old (value_if test register)) more ≡ option_or old (if test then Some register else more)
-one_access true register None more = refl
-one_access false register None more = refl
-one_access test register (Some first) more = refl
+listed_case : {V : Type 0} (old : Option V) (same rest : Bool) (value : V) → (is_some (option_or old (value_if same value)) || rest) ≡ (is_some old || (same || rest))
+listed_case None true rest value = refl
+listed_case None false rest value = refl
+listed_case (Some kept) same rest value = refl
 
--- ---- the instructions that have no opcode
+-- one opcode more
+pub one_listed : {V : Type 0} (old new : Option V) (same rest : Bool) (value : V) → new ≡ option_or old (value_if same value) → (is_some new || rest) ≡ (is_some old || (same || rest))
+one_listed old new same rest value is = ap (λ found. is_some found || rest) is ∙ listed_case old same rest value
 
-some_mapped : (found : Option (Bor (List ℕ))) → is_some (option_map (λ name. name.now) found) ≡ is_some found
-some_mapped None = refl
-some_mapped (Some name) = refl
+untold_case : (old : Option (Option (Bor (List ℕ)))) (same : Bool) → told old ≡ None → told (option_or old (value_if same None)) ≡ None
+untold_case None true none = refl
+untold_case None false none = refl
+untold_case (Some found) same none = none
 
--- what the accesses name has a value
-pub has_value : (accesses : List AccessEntry) (index : NameIndex (Bor (List ℕ))) → Mentions accesses index → (name : List ℕ) → is_some (mentioned accesses name) ≡ true → is_some (value_of index name) ≡ true
-has_value accesses index mentions name there = sym (some_mapped (value_of index name)) ∙ ap is_some (mentions.is name) ∙ there
+pub one_untold : (old new : Option (Option (Bor (List ℕ)))) (same : Bool) → told old ≡ None → new ≡ option_or old (value_if same None) → told new ≡ None
+one_untold old new same none is = ap told is ∙ untold_case old same none
 
-removed_case : {V : Type 0} (same : Bool) (old new : Option V) (rest : Bool) → new ≡ (if same then None else old) → (is_some new && not rest) ≡ (is_some old && not (same || rest))
-removed_case true old new rest is = ap (λ found. is_some found && not rest) is ∙ sym (and_false (is_some old))
-removed_case false old new rest is = ap (λ found. is_some found && not rest) is
+pub or_false : (test : Bool) → (test || false) ≡ test
+or_false true = refl
+or_false false = refl
 
--- one name less, and one name fewer to come
-pub one_removed : {V : Type 0} (old new : NameIndex V) (first : List ℕ) (rest : List (List ℕ)) (name : List ℕ) → value_of new name ≡ (if same_name name first then None else value_of old name)
-    → (is_some (value_of new name) && not (is_listed name rest)) ≡ (is_some (value_of old name) && not (is_listed name (first ∷ rest)))
-one_removed old new first rest name is = removed_case (same_name name first) (value_of old name) (value_of new name) (is_listed name rest) is
+-- all accesses
+pub all_heard : (all : List AccessEntry) (instructions : List (List ℕ)) (index : NameIndex (Option (Bor (List ℕ)))) → Awaits [] all index → Lists instructions index → Mentions all instructions index
+all_heard all instructions index awaits lists = record { is = λ name listed. sym (no_more (told (value_of index name))) ∙ awaits.is name (lists.are name ∙ listed) }
 
-first_case : (test : Bool) (register : List ℕ) (more : Option (List ℕ)) → is_some (if test then Some register else None) ≡ true → is_some (if test then Some register else more) ≡ true
-first_case true register more is = is
-first_case false register more is = absurd (cc is)
-
-rest_case : (test : Bool) (register : List ℕ) (more : Option (List ℕ)) → is_some more ≡ true → is_some (if test then Some register else more) ≡ true
-rest_case true register more is = refl
-rest_case false register more is = is
-
-pub first_lack : {V : Type 0} (access : AccessEntry) (rest : List AccessEntry) (names : List (List ℕ)) (index : NameIndex V) → Lack (access ∷ rest) names index → Lack (access ∷ []) names index
-first_lack access rest names index all = record { are = λ name there. all.are name (first_case (is_listed name access.instructions) access.register (mentioned rest name) there) }
-
-pub rest_lack : {V : Type 0} (access : AccessEntry) (rest : List AccessEntry) (names : List (List ℕ)) (index : NameIndex V) → Lack (access ∷ rest) names index → Lack rest names index
-rest_lack access rest names index all = record { are = λ name there. all.are name (rest_case (is_listed name access.instructions) access.register (mentioned rest name) there) }
-
-same_answers : (left right : List ℕ → Bool) (names : List (List ℕ)) → ((name : List ℕ) → is_listed name names ≡ true → left name ≡ right name) → list_any left names ≡ list_any right names
-same_answers left right [] agree = refl
-same_answers left right (first ∷ names) agree = λ i.
-    agree first (or_left (same_name first first) (is_listed first names) (same_self first)) i
-    || same_answers left right names (λ name listed. agree name (or_right (same_name name first) (is_listed name names) listed)) i
-
-listed_case : (test : Bool) (register : List ℕ) → test ≡ true → is_some (if test then Some register else None) ≡ true
-listed_case true register is = refl
-listed_case false register is = absurd (cc is)
-
-pub lacks : {V : Type 0} (access : AccessEntry) (names : List (List ℕ)) (index : NameIndex V) → Lack (access ∷ []) names index
-    → list_any (λ name. is_some (value_of index name)) access.instructions ≡ list_any (λ name. not (is_listed name names)) access.instructions
-lacks access names index lack = same_answers (λ name. is_some (value_of index name)) (λ name. not (is_listed name names)) access.instructions (λ name listed. lack.are name (listed_case (is_listed name access.instructions) access.register listed))
+-- an opcode's name is one of the opcodes' names
+pub item_listed : (opcodes rest : List OpcodeEntry) (at : ℕ) (opcode : OpcodeEntry) → drop at opcodes ≡ opcode ∷ rest → is_listed opcode.name (map (λ opcode. opcode.name) opcodes) ≡ true
+item_listed [] rest zero opcode here = absurd (cc here)
+item_listed [] rest (suc at) opcode here = absurd (cc here)
+item_listed (first ∷ opcodes) rest zero opcode here =
+    let is : first ≡ opcode = cc here in
+    or_left (same_name opcode.name first.name) (is_listed opcode.name (map (λ opcode. opcode.name) opcodes)) (ap (λ (found : OpcodeEntry). same_name opcode.name found.name) is ∙ same_self opcode.name)
+item_listed (first ∷ opcodes) rest (suc at) opcode here = or_right (same_name opcode.name first.name) (is_listed opcode.name (map (λ opcode. opcode.name) opcodes)) (item_listed opcodes rest at opcode here)
 
 -- ---- the lengths of the registers that are known
 
@@ -237,25 +279,71 @@ one_more_length (first ∷ known) register name = or_behind (same_name first.nam
 named-push : (registers : List DataRegister) (register : DataRegister) → named_of (registers ++ register ∷ []) ≡ named_of registers ++ record { name = register.name; length = register.length } ∷ []
 named-push registers register = map-append (λ register. record { name = register.name; length = register.length }) registers (register ∷ [])
 
-pub lengths_after : (registers : List DataRegister) (register : DataRegister) (old new : NameIndex ℕ) → Lengths (named_of registers) old
-    → ((name : List ℕ) → value_of new name ≡ option_or (value_of old name) (value_if (same_name name register.name) register.length))
-    → Lengths (named_of (registers ++ register ∷ [])) new
-lengths_after registers register old new before added = record {
-  are = λ name.
-      added name
-      ∙ ap (λ found. option_or found (value_if (same_name name register.name) register.length)) (before.are name)
-      ∙ one_more_length (named_of registers) (record { name = register.name; length = register.length }) name
-      ∙ ap (λ known. length_named known name) (sym (named-push registers register));
-}
+mapped_or : {V W : Type 0} (f : V → W) (old : Option V) (test : Bool) (value : V) → option_map f (option_or old (value_if test value)) ≡ option_or (option_map f old) (value_if test (f value))
+mapped_or f None true value = refl
+mapped_or f None false value = refl
+mapped_or f (Some kept) test value = refl
 
--- ---- the place of a register, one step on
+place_case : (same : Bool) (length : ℕ) (more : Option ℕ) → (if same then Some length else more) ≡ None → same ≡ false
+place_case true length more none = absurd (cc none)
+place_case false length more none = refl
 
-kept_place : (test other : Bool) (old : Option ℕ) (place further : ℕ) → test ≡ other → unwrap_or (option_or old (value_if test place)) (place + 1 + further) ≡ unwrap_or old (place + (if other then 0 else suc further))
-kept_place test other (Some kept) place further same = refl
-kept_place true true None place further same = omega arith
-kept_place true false None place further same = absurd (cc same)
-kept_place false true None place further same = absurd (cc same)
-kept_place false false None place further same = omega arith
+rest_none : (same : Bool) (length : ℕ) (more : Option ℕ) → (if same then Some length else more) ≡ None → more ≡ None
+rest_none true length more none = absurd (cc none)
+rest_none false length more none = none
 
-pub next_place : (old : Option ℕ) (place : ℕ) (register : NamedRegister) (rest : List NamedRegister) (name : List ℕ) → unwrap_or (option_or old (value_if (same_name name register.name) place)) (place + 1 + place_of_name rest name) ≡ unwrap_or old (place + place_of_name (register ∷ rest) name)
-next_place old place register rest name = kept_place (same_name name register.name) (same_name register.name name) old place (place_of_name rest name) (swapped name register.name)
+-- a register of another name behind the others
+pub place_behind : (known : List NamedRegister) (register : NamedRegister) (name : List ℕ) → length_named known name ≡ None → place_of_name (known ++ register ∷ []) name ≡ length known + (if same_name register.name name then 0 else 1)
+place_behind [] register name none = by (same_name register.name name)
+  where
+    by : (same : Bool) → (if same then 0 else 1) ≡ 0 + (if same then 0 else 1)
+    by true = refl
+    by false = refl
+place_behind (first ∷ known) register name none =
+    let apart = place_case (same_name first.name name) first.length (length_named known name) none in
+    let rest = place_behind known register name (rest_none (same_name first.name name) first.length (length_named known name) none) in
+    rw apart (omega (arith, rest))
+
+stays_case : (same : Bool) (length : ℕ) (more : Option ℕ) (place behind : ℕ) → is_some (if same then Some length else more) ≡ true → (is_some more ≡ true → behind ≡ place) → (if same then 0 else suc behind) ≡ (if same then 0 else suc place)
+stays_case true length more place behind some rest = refl
+stays_case false length more place behind some rest = ap suc (rest some)
+
+-- a register of a name that is known has its place before the others
+pub place_before : (known : List NamedRegister) (register : NamedRegister) (name : List ℕ) → is_some (length_named known name) ≡ true → place_of_name (known ++ register ∷ []) name ≡ place_of_name known name
+place_before [] register name some = absurd (cc some)
+place_before (first ∷ known) register name some = stays_case (same_name first.name name) first.length (length_named known name) (place_of_name known name) (place_of_name (known ++ register ∷ []) name) some (place_before known register name)
+
+new_place : (found : Option (ℕ × ℕ)) (known : List NamedRegister) (register : NamedRegister) (name : List ℕ) → option_map (λ found. found.1) found ≡ length_named known name → unwrap_or (option_map (λ found. found.0) found) (length known) ≡ place_of_name known name
+    → unwrap_or (option_or (option_map (λ found. found.0) found) (value_if (same_name name register.name) (length known))) (length known + 1) ≡ place_of_name (known ++ register ∷ []) name
+new_place None known register name lengths places = by (same_name name register.name) (same_name register.name name) (swapped name register.name) ∙ sym (place_behind known register name (sym lengths))
+  where
+    by : (same other : Bool) → same ≡ other → unwrap_or (value_if same (length known)) (length known + 1) ≡ length known + (if other then 0 else 1)
+    by true true is = omega arith
+    by true false is = absurd (cc is)
+    by false true is = absurd (cc is)
+    by false false is = refl
+new_place (Some found) known register name lengths places = places ∙ sym (place_before known register name (ap is_some (sym lengths)))
+
+pub knows_after : (registers : List DataRegister) (register : DataRegister) (place : ℕ) (old new : NameIndex (ℕ × ℕ)) → Knows (named_of registers) old → place ≡ length registers
+    → ((name : List ℕ) → value_of new name ≡ option_or (value_of old name) (value_if (same_name name register.name) (place, register.length)))
+    → Knows (named_of (registers ++ register ∷ [])) new
+knows_after registers register place old new before is added =
+    let known = named_of registers in
+    let entry : NamedRegister = record { name = register.name; length = register.length } in
+    let pushed : named_of (registers ++ register ∷ []) ≡ known ++ entry ∷ [] = named-push registers register in
+    let here : place ≡ length known = is ∙ sym (length-named_of registers) in
+    record {
+      lengths = λ name.
+          ap (option_map (λ found. found.1)) (added name)
+          ∙ mapped_or (λ found. found.1) (value_of old name) (same_name name register.name) (place, register.length)
+          ∙ ap (λ found. option_or found (value_if (same_name name register.name) register.length)) (before.lengths name)
+          ∙ one_more_length known entry name
+          ∙ ap (λ (all : List NamedRegister). length_named all name) (sym pushed);
+      places = λ name.
+          ap (λ found. unwrap_or (option_map (λ found. found.0) found) (length (named_of (registers ++ register ∷ [])))) (added name)
+          ∙ ap (λ found. unwrap_or found (length (named_of (registers ++ register ∷ [])))) (mapped_or (λ found. found.0) (value_of old name) (same_name name register.name) (place, register.length))
+          ∙ ap (λ count. unwrap_or (option_or (option_map (λ found. found.0) (value_of old name)) (value_if (same_name name register.name) place)) count) (ap length pushed ∙ length-append known (entry ∷ []))
+          ∙ ap (λ at. unwrap_or (option_or (option_map (λ found. found.0) (value_of old name)) (value_if (same_name name register.name) at)) (length known + 1)) here
+          ∙ new_place (value_of old name) known entry name (before.lengths name) (before.places name)
+          ∙ ap (λ (all : List NamedRegister). place_of_name all name) (sym pushed);
+    }

@@ -5,3 +5,4 @@ pub mod Plans
 pub mod Demo
 pub mod Laws
 pub mod Sound
+pub mod CodeTables

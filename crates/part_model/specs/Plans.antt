@@ -13,7 +13,7 @@ use Rattle.part_model.specs.declared.plan.PartPlan.{PartPlan}
 use Rattle.part_model.specs.declared.plan.PlanRefusal.{PlanRefusal}
 use Rattle.part_model.specs.declared.plan.PartRefusal.{PartRefusal}
 use Rattle.part_model.specs.declared.plan.PartRefusal.TheVariants.{Memory, Refused}
-use Rattle.part_model.specs.Parts.{DeviceType, Instruction, NamedRegister, Register, same_name, selected}
+use Rattle.part_model.specs.Parts.{DeviceType, Instruction, NamedRegister, Register, numbered, same_name, selected}
 use Rattle.part_model.specs.Parts.Register.{Bypass, Boundary, Idcode, Usercode, Named}
 
 -- an entry of INSTRUCTION_OPCODE: a name and its patterns, lowest digit first
@@ -99,6 +99,11 @@ register_for access instruction = register_or (mentioned access instruction) (na
 -- an instruction with the register that it selects
 abbrev pub opcode_of : List AccessEntry → OpcodeEntry → Instruction
 opcode_of access plan = record { name = plan.name; patterns = plan.patterns; register = register_for access plan.name }
+
+-- opcodes with the registers of these numbers
+abbrev pub with_registers : List OpcodeEntry → List ℕ → List Instruction
+with_registers (plan ∷ plans) (register ∷ registers) = record { name = plan.name; patterns = plan.patterns; register = numbered register } ∷ with_registers plans registers
+with_registers _ _ = []
 
 -- the first pattern of an opcode
 abbrev pub first_pattern : List (List Digit) → List Digit

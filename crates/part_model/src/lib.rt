@@ -8,6 +8,7 @@ ghost use Rattle.part_model.specs.Laws.{CapturedEndsIn01, ResetIdentifies, Reset
 ghost use Rattle.part_model.specs.Sound.{PartsAreSound};
 ghost use Rattle.part_model.specs.Demo.{demo_plan, demo_part};
 
+mod code_table;
 mod codes;
 mod name_index;
 mod names;
@@ -24,7 +25,7 @@ mod tests;
 
 pub use part::{Part, RegNo};
 pub use patterns::{CodePattern, Patterns};
-pub use plan::{Access, Opcode, PartPlan, PartRefusal, Pattern};
+pub use plan::{Access, Names, Opcode, PartPlan, PartRefusal, Pattern};
 
 /// A digit of a pattern. `Any` is X.
 #[derive(Clone, Copy, Debug, PartialEq, Eq)]

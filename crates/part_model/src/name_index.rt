@@ -1,6 +1,6 @@
 // Names with a value each, that are found without a search through all of them.
-ghost use Rattle.std.specs.Prelude.{◌≡◌, ℕ, List, OnOk, IfOk, None, Some, if◌then◌else◌};
-ghost use Rattle.std.specs.Option.{option_or};
+ghost use Rattle.std.specs.Prelude.{◌≡◌, ℕ, List, true, OnOk, IfOk, None, Some, if◌then◌else◌};
+ghost use Rattle.std.specs.Option.{is_some, option_or};
 ghost use Rattle.part_model.specs.NameIndexes as indexes;
 ghost use Rattle.part_model.specs.Parts as parts;
 
@@ -8,11 +8,12 @@ use crate::names::same_name;
 use std::alloc::{AllocError, Global};
 use std::collections::BTreeMap;
 
-// What stands in a slot: a name with its value, several names in the order of their hashes, where equal hashes are told apart by the
-// names, or nothing.
+// What stands in a slot: a name with its value, two of them, several names in the order of their hashes, where equal hashes are told
+// apart by the names, or nothing.
 #[derive(Drop)]
 pub enum Slot<'a, V: Drop> {
     One(&'a str, V),
+    Two(&'a str, V, &'a str, V),
     Several(BTreeMap<(u64, &'a str), V>),
     Empty,
 }
@@ -60,19 +61,19 @@ fn add_to<'a, V: Copy + Drop>(
     Ok(())
 }
 
-// Two names with their values, of which the first counts where the names are equal.
-fn both<'a, V: Copy + Drop>(
+// Three names with their values, of which the first counts where names are equal.
+fn three<'a, V: Copy + Drop>(
     alloc: Global,
-    first: &'a str,
-    first_value: V,
-    second: &'a str,
-    second_value: V,
+    first: (&'a str, V),
+    second: (&'a str, V),
+    third: (&'a str, V),
 ) -> Result<BTreeMap<(u64, &'a str), V>, AllocError>
-    ensures { IfOk result (λ several. (other : List ℕ) → indexes.value_among several other ≡ option_or (if parts.same_name other first.now then Some first_value else None) (if parts.same_name other second.now then Some second_value else None)) }
+    ensures { IfOk result (λ several. (other : List ℕ) → indexes.value_among several other ≡ option_or (option_or (if parts.same_name other first.entry.0.now then Some first.entry.1 else None) (if parts.same_name other second.entry.0.now then Some second.entry.1 else None)) (if parts.same_name other third.entry.0.now then Some third.entry.1 else None)) }
 {
     let mut several = BTreeMap::new(alloc);
-    add_to(&mut several, first, first_value)?;
-    add_to(&mut several, second, second_value)?;
+    add_to(&mut several, first.0, first.1)?;
+    add_to(&mut several, second.0, second.1)?;
+    add_to(&mut several, third.0, third.1)?;
     Ok(several)
 }
 
@@ -85,6 +86,13 @@ impl<'a, V: Copy + Drop> Slot<'a, V> {
             Slot::Empty => None,
             Slot::One(kept, value) => if is_name(name, kept) {
                 Some(*value)
+            } else {
+                None
+            },
+            Slot::Two(first, value, second, other) => if is_name(name, first) {
+                Some(*value)
+            } else if is_name(name, second) {
+                Some(*other)
             } else {
                 None
             },
@@ -102,37 +110,67 @@ impl<'a, V: Copy + Drop> Slot<'a, V> {
                 Ok(())
             }
             Slot::One(kept, first) => {
-                if is_name(name, kept) {
+                if !is_name(name, kept) {
+                    *self = Slot::Two(kept, *first, name, value);
+                }
+                Ok(())
+            }
+            Slot::Two(first, first_value, second, second_value) => {
+                if is_name(name, first) {
                     return Ok(());
                 }
-                let several = both(alloc, kept, *first, name, value)?;
-                *self = Slot::Several(several);
+                if is_name(name, second) {
+                    return Ok(());
+                }
+                let first = (*first, *first_value);
+                let second = (*second, *second_value);
+                *self = Slot::Several(three(alloc, first, second, (name, value))?);
                 Ok(())
             }
             Slot::Several(several) => add_to(several, name, value),
         }
     }
 
-    // No value for a name.
-    fn remove(&mut self, name: &'a str)
-        ensures { (other : List ℕ) → indexes.value_at self.new other ≡ (if parts.same_name other name.now then None else indexes.value_at self.old other) }
+    // Another value for a name that has one.
+    fn put(&mut self, name: &'a str, value: V) -> Result<(), AllocError>
+        requires { is_some (indexes.value_at self.old name.now) ≡ true }
+        ensures { OnOk result ((other : List ℕ) → indexes.value_at self.new other ≡ (if parts.same_name other name.now then Some value else indexes.value_at self.old other)) }
     {
         match self {
             Slot::Empty => {}
-            Slot::One(kept, _) => {
-                if is_name(name, kept) {
-                    *self = Slot::Empty;
-                }
-            }
+            Slot::One(_, kept) => *kept = value,
+            Slot::Two(first, kept, _, other) => if is_name(name, first) {
+                *kept = value;
+            } else {
+                *other = value;
+            },
             Slot::Several(several) => {
-                several.remove(&(hash(name), name));
+                several.insert((hash(name), name), value)?;
+            }
+        }
+        Ok(())
+    }
+}
+
+impl<'a, V: Copy + Drop> Slot<'a, Option<V>> {
+    // A value for a name that stands without one. Whether the name stands here.
+    fn fill(&mut self, name: &'a str, value: V) -> Result<bool, AllocError>
+        ensures stands { IfOk result (λ stands. stands ≡ is_some (indexes.value_at self.old name.now)) }
+        ensures filled { OnOk result ((other : List ℕ) → indexes.value_at self.new other ≡ indexes.filled (parts.same_name other name.now) value (indexes.value_at self.old other)) }
+    {
+        match self.find(name) {
+            None => Ok(false),
+            Some(Some(_)) => Ok(true),
+            Some(None) => {
+                self.put(name, Some(value))?;
+                Ok(true)
             }
         }
     }
 }
 
 // So many slots stand ready for each name, so that few share one.
-const SLOTS: usize = 4;
+const SLOTS: usize = 3;
 
 impl<'a, V: Copy + Drop> NameIndex<'a, V> {
     // No name has a value. There is room for so many names.
@@ -174,15 +212,21 @@ impl<'a, V: Copy + Drop> NameIndex<'a, V> {
         self.slots[at].add(alloc, name, value)?;
         Ok(())
     }
+}
 
-    // No value for a name.
+impl<'a, V: Copy + Drop> NameIndex<'a, Option<V>> {
+    // A value for a name that stands without one. Whether the name stands here. The error comes where memory is wanting, or there is room
+    // for no name.
     #[tactic(auto, unfolding(crate::specs::NameIndexes::value_of))]
-    pub fn remove(&mut self, name: &'a str)
-        ensures { (other : List ℕ) → indexes.value_of self.new other ≡ (if parts.same_name other name.now then None else indexes.value_of self.old other) }
+    pub fn fill(&mut self, name: &'a str, value: V) -> Result<bool, AllocError>
+        ensures stands { IfOk result (λ stands. stands ≡ is_some (indexes.value_of self.old name.now)) }
+        ensures filled { OnOk result ((other : List ℕ) → indexes.value_of self.new other ≡ indexes.filled (parts.same_name other name.now) value (indexes.value_of self.old other)) }
     {
         let at = place(name, self.slots.len());
-        if at < self.slots.len() {
-            self.slots[at].remove(name);
+        if at >= self.slots.len() {
+            return Err(AllocError);
         }
+        let stands = self.slots[at].fill(name, value)?;
+        Ok(stands)
     }
 }

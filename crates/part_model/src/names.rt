@@ -24,8 +24,7 @@ pub fn spelled(name: &Text) -> &[u8]
 pub fn copy_name(alloc: Global, name: &Text) -> Result<Text, AllocError>
     ensures { IfOk result (λ copy. copy ≡ name.now) }
 {
-    let string = String::from_str(alloc, name.as_str())?;
-    Ok(Text::from_string(string))
+    Text::from_str(alloc, name.as_str())
 }
 
 // Whether the standard names a register so.

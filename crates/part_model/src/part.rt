@@ -1,16 +1,20 @@
 // A device type.
-ghost use Rattle.std.specs.Prelude.{◌≡◌, ◌<◌, ◌≤◌, ◌+◌, ◌-◌, ◌^◌, true, length, if◌then◌else◌, IfOk, IfErr, None};
+ghost use Rattle.std.specs.Prelude.{◌≡◌, ◌<◌, ◌≤◌, ◌+◌, ◌-◌, ◌^◌, true, length, if◌then◌else◌, IfOk, IfErr, OnOk, None};
 ghost use Rattle.std.specs.Option.{option_map};
 ghost use Rattle.scan_bits.specs.Words.{bits_of};
+ghost use Rattle.part_model.specs.CodeTables.{IsTableOf, Selects};
 ghost use Rattle.part_model.specs.Parts as parts;
 ghost use Rattle.part_model.specs.Plans as plans;
 
+use crate::code_table::{CodeTable, Selected};
 use crate::names::{same_name, spelled};
 use crate::plan::{PartPlan, PartRefusal};
-use crate::refusals::{boundary_refusal, code_refusal, named_registers};
+use crate::refusals::{boundary_refusal, code_refusal};
 use crate::registers::{BOUNDARY, BYPASS, DataRegister, FIRST_NAMED, IDCODE, USERCODE};
 use crate::reset::{capture_code, idcode, identified, reset_code, usercode};
-use crate::selections::{Selection, copy_registers, copy_selections, instruction, selected};
+use crate::selections::{
+    Selection, copy_registers, copy_selections, instruction, registers_of, selected,
+};
 use base_types::Items;
 use std::alloc::{AllocError, Global};
 use std::marker::Model;
@@ -18,6 +22,12 @@ use std::marker::Model;
 /// The number of a data register of a part: 0 BYPASS, 1 BOUNDARY, 2 DEVICE_ID by IDCODE, 3 DEVICE_ID by USERCODE, and from 4 on the
 /// named registers in the order of their first mention in REGISTER_ACCESS.
 pub type RegNo = u32;
+
+// What codes select is kept where the instruction register has at most so many bits,
+const LONGEST_TABLED: u32 = 10;
+
+// and codes times opcodes are at most so many.
+const MOST_TRIED: u64 = 65_536;
 
 /// A device type: what a plan that is not refused says of a device. Contracts see it as that device type.
 #[derive(Drop)]
@@ -30,17 +40,20 @@ pub struct Part {
     boundary: u32,
     opcodes: Items<Selection>,
     named: Items<DataRegister>,
+    // What each code selects, where the codes are few.
+    table: CodeTable,
 }
 
 impl Model for Part {
     ghost use Rattle.part_model.specs.Parts.{DeviceType, Fits, kept};
     ghost use Rattle.part_model.specs.Plans.{IsPart};
+    ghost use Rattle.part_model.specs.CodeTables.{IsTableOf};
 
     ghost Value = { DeviceType };
 
     ghost view = { λ p. kept p.ir_len p.capture_code p.reset_code p.idcode p.usercode p.boundary p.opcodes p.named };
 
-    ghost invariant = { λ p. Fits p.ir_len p.capture_code p.reset_code p.opcodes p.named × IsPart (kept p.ir_len p.capture_code p.reset_code p.idcode p.usercode p.boundary p.opcodes p.named) };
+    ghost invariant = { λ p. Fits p.ir_len p.capture_code p.reset_code p.opcodes p.named × IsPart (kept p.ir_len p.capture_code p.reset_code p.idcode p.usercode p.boundary p.opcodes p.named) × IsTableOf (kept p.ir_len p.capture_code p.reset_code p.idcode p.usercode p.boundary p.opcodes p.named) p.table };
 }
 
 impl Part {
@@ -56,7 +69,7 @@ impl Part {
         if let Some(refusal) = code_refusal(&plan) {
             return Err(refusal.into());
         }
-        let named = named_registers(alloc, &plan)?;
+        let registers = registers_of(alloc, &plan)?;
         if let Some(refusal) = boundary_refusal(&plan) {
             return Err(refusal.into());
         }
@@ -66,8 +79,8 @@ impl Part {
         let reset_code = reset_code(&plan);
         let idcode = idcode(&plan);
         let usercode = usercode(&plan);
-        let opcodes = identified(alloc, plan, &named, reset_code)?;
-        Ok(Part {
+        let opcodes = identified(alloc, plan, &registers, reset_code)?;
+        let mut part = Part {
             ir_len,
             capture_code,
             reset_code,
@@ -75,8 +88,11 @@ impl Part {
             usercode,
             boundary,
             opcodes: Items::from_vec(opcodes),
-            named: Items::from_vec(named),
-        })
+            named: Items::from_vec(registers.named),
+            table: CodeTable::empty(alloc),
+        };
+        part.fill_table(alloc)?;
+        Ok(part)
     }
 
     /// An equal part. The error comes where memory is wanting.
@@ -85,6 +101,7 @@ impl Part {
     {
         let opcodes = copy_selections(alloc, self.opcodes.as_slice())?;
         let named = copy_registers(alloc, self.named.as_slice())?;
+        let table = self.table.copy(alloc)?;
         Ok(Part {
             ir_len: self.ir_len,
             capture_code: self.capture_code,
@@ -94,6 +111,7 @@ impl Part {
             boundary: self.boundary,
             opcodes: Items::from_vec(opcodes),
             named: Items::from_vec(named),
+            table,
         })
     }
 
@@ -143,7 +161,70 @@ impl Part {
         ensures is { parts.numbered result ≡ parts.selected self.now (bits_of self.now.ir_length code) }
         ensures there { result < parts.register_count self.now }
     {
+        match self.table.get(code) {
+            Some(entry) => entry.register,
+            None => self.search(code),
+        }
+    }
+
+    /// How many bits the data register has that a code selects.
+    pub fn selected_length(&self, code: u64) -> u32
+        ensures { result ≡ parts.length_of self.now (parts.selected self.now (bits_of self.now.ir_length code)) }
+    {
+        match self.table.get(code) {
+            Some(entry) => entry.length,
+            None => self.len_of(self.search(code)),
+        }
+    }
+
+    // The data register that a code selects, found among the opcodes.
+    fn search(&self, code: u64) -> RegNo
+        ensures is { parts.numbered result ≡ parts.selected self.now (bits_of self.now.ir_length code) }
+        ensures there { result < parts.register_count self.now }
+    {
         selected(self.opcodes.as_slice(), self.ir_len, code)
+    }
+
+    // What a code selects, found among the opcodes.
+    fn searched(&self, code: u64) -> Selected
+        ensures { Selects self.now code result }
+    {
+        let register = self.search(code);
+        Selected {
+            register,
+            length: self.len_of(register),
+        }
+    }
+
+    // How many codes there are, where they are few for so many opcodes, and else 0.
+    fn table_size(&self) -> u64 {
+        if self.ir_len > LONGEST_TABLED {
+            return 0;
+        }
+        let codes = 1 << self.ir_len;
+        if self.opcodes.len() as u64 > MOST_TRIED / codes {
+            return 0;
+        }
+        codes
+    }
+
+    // What so many codes select, from code 0 on.
+    fn table_of(&self, alloc: Global, count: u64) -> Result<CodeTable, AllocError>
+        ensures { IfOk result (IsTableOf self.now) }
+    {
+        let mut table = CodeTable::with_room(alloc, count as usize)?;
+        for code in 0..count {
+            table.push(self.searched(code))?;
+        }
+        Ok(table)
+    }
+
+    // Keeps what the codes select at hand, where they are few.
+    fn fill_table(&mut self, alloc: Global) -> Result<(), AllocError>
+        ensures { OnOk result (self.new ≡ self.old) }
+    {
+        self.table = self.table_of(alloc, self.table_size())?;
+        Ok(())
     }
 
     /// Whether the part drives its pins from BOUNDARY under a code: the code is not all ones, and the first listed opcode that it

@@ -1,11 +1,12 @@
 // What a BSDL entity says of a device, and why it is refused.
-ghost use Rattle.std.specs.Prelude.{◌≡◌};
+ghost use Rattle.std.specs.Prelude.{◌≡◌, [], ◌∷◌, ◌++◌, length, eqb, OnOk, OnErr};
 ghost use Rattle.part_model.specs.declared.plan.PartRefusal.TheVariants.{Memory, Refused};
 
 use crate::patterns::Patterns;
 use crate::{Digit, Field};
 use base_types::{Items, Text};
-use std::alloc::{AllocError, AllocFailed};
+use smallvec::SmallVec;
+use std::alloc::{AllocError, AllocFailed, Global};
 use std::marker::Model;
 use thiserror::Error;
 
@@ -40,13 +41,68 @@ pub struct Opcode {
     pub patterns: Patterns,
 }
 
+/// Names in their order, of which one alone takes no memory. Contracts see them as the plain list of them.
+#[derive(Drop)]
+pub struct Names {
+    list: SmallVec<Text, 1>,
+}
+
+impl Model for Names {
+    ghost use Rattle.std.specs.Prelude.{List, ℕ};
+
+    ghost Value = { List (List ℕ) };
+
+    ghost view = { λ names. names.list.items };
+}
+
+impl Names {
+    /// No names. Takes no memory.
+    pub fn new(alloc: Global) -> Self
+        ensures { result ≡ [] }
+    {
+        Names {
+            list: SmallVec::new(alloc),
+        }
+    }
+
+    /// Puts a name behind the others. Where there is no memory the names stay as they were, and the new one is dropped.
+    pub fn push(&mut self, name: Text) -> Result<(), AllocError>
+        ensures added { OnOk result (self.new ≡ self.old ++ name ∷ []) }
+        ensures kept { OnErr result (self.new ≡ self.old) }
+    {
+        self.list.push(name)?;
+        Ok(())
+    }
+
+    /// How many names there are.
+    pub fn len(&self) -> usize
+        ensures { result ≡ length self.now }
+    {
+        self.list.len()
+    }
+
+    /// Whether there is none.
+    pub fn is_empty(&self) -> bool
+        ensures { result ≡ eqb (length self.now) 0 }
+    {
+        self.list.is_empty()
+    }
+
+    /// All names, in order.
+    pub fn as_slice(&self) -> &[Text]
+        ensures { result.now ≡ self.now }
+    {
+        self.list.as_slice()
+    }
+}
+
 /// An entry of REGISTER_ACCESS: a register's name in capitals, its length in bits where it is stated, and the names of the
 /// instructions that select it.
 #[derive(Drop)]
 pub struct Access {
     pub register: Text,
     pub length: Option<u32>,
-    pub instructions: Items<Text>,
+    pub instructions: Names,
 }
 
 /// What the seven attributes of a BSDL entity say: INSTRUCTION_LENGTH in bits, INSTRUCTION_OPCODE and REGISTER_ACCESS in their

@@ -1,17 +1,17 @@
 // Which plans are refused, and the first cause.
-ghost use Rattle.std.specs.Prelude.{◌≡◌, ℕ, List, ◌<◌, ◌-◌, ◌^◌, not, ◌||◌, [], ◌∷◌, length, map, codes, if◌then◌else◌, IfOk, IfErr, None};
+ghost use Rattle.std.specs.Prelude.{◌≡◌, ℕ, List, ◌<◌, ◌-◌, ◌^◌, not, ◌||◌, [], ◌∷◌, length, map, codes, if◌then◌else◌, OnOk, IfOk, IfErr, None};
 ghost use Rattle.std.specs.List.{list_any};
-ghost use Rattle.std.specs.Option.{is_some};
 ghost use Rattle.part_model.specs.NameIndexes as indexes;
 ghost use Rattle.part_model.specs.Parts as parts;
 ghost use Rattle.part_model.specs.Plans as plans;
+ghost use Rattle.part_model.specs.declared.Field.TheVariants.{RegisterAccess};
 
 use crate::name_index::NameIndex;
 use crate::names::{same_name, spelled};
 use crate::patterns::wrong_length;
 use crate::plan::{Access, Opcode, PartPlan, PartRefusal, Pattern, PlanRefusal};
-use crate::register_index::mentioned;
-use crate::registers::{DataRegister, KnownRegisters, mention};
+use crate::register_index::{RegisterIndex, instructions, mention_register};
+use crate::registers::{KnownRegisters, mention};
 use crate::{Digit, Field};
 use base_types::Text;
 use std::alloc::{AllocError, Global};
@@ -135,40 +135,6 @@ pub fn has_opcode(opcodes: &[Opcode], name: &[u8]) -> bool
     false
 }
 
-// The instructions that accesses name and that have no opcode.
-fn without_opcode<'a>(
-    alloc: Global,
-    accesses: &'a [Access],
-    opcodes: &'a [Opcode],
-) -> Result<NameIndex<'a, &'a Text>, AllocError>
-    ensures { IfOk result (indexes.Lack accesses.now (map (λ opcode. opcode.name) opcodes.now)) }
-{
-    let mut instructions = mentioned(alloc, accesses, opcodes.len())?;
-    for opcode in opcodes {
-        instructions.remove(opcode.name.as_str());
-    }
-    Ok(instructions)
-}
-
-// Whether one of these names has a value.
-fn any_found<'a>(names: &'a [Text], index: &NameIndex<'a, &'a Text>) -> bool
-    ensures { result ≡ list_any (λ name. is_some (indexes.value_of index.now name)) names.now }
-{
-    for name in names {
-        if index.find(name.as_str()).is_some() {
-            return true;
-        }
-    }
-    false
-}
-
-// Whether an access names an instruction that has no opcode.
-fn names_without_opcode<'a>(access: &'a Access, without: &NameIndex<'a, &'a Text>) -> bool
-    ensures { (names : List (List ℕ)) → indexes.Lack (access.now ∷ []) names without.now → result ≡ list_any (λ instruction. not (plans.is_listed instruction names)) access.now.instructions }
-{
-    any_found(access.instructions.as_slice(), without)
-}
-
 fn differs(known: Option<u32>, stated: Option<u32>) -> bool
     ensures { result ≡ plans.differs known stated }
 {
@@ -178,15 +144,9 @@ fn differs(known: Option<u32>, stated: Option<u32>) -> bool
     }
 }
 
-// The first cause in one access, where this is the length of the known register of its name.
-fn access_refusal<'a>(
-    plan: &PartPlan,
-    without: &NameIndex<'a, &'a Text>,
-    named: Option<u32>,
-    access: &'a Access,
-) -> Option<PlanRefusal>
-    requires without { indexes.Lack (access.now ∷ []) (map (λ opcode. opcode.name) plan.now.opcodes) without.now }
-    ensures { (known : List parts.NamedRegister) → named ≡ plans.length_named known access.now.register → result ≡ plans.access_refusal plan.now known access.now }
+// The first cause in the register of an access, where this is the length of the known register of its name.
+fn register_refusal(plan: &PartPlan, named: Option<u32>, access: &Access) -> Option<PlanRefusal>
+    ensures { (known : List parts.NamedRegister) → named ≡ plans.length_named known access.now.register → plans.access_refusal plan.now known access.now ≡ plans.or_else result (plans.refuse_if (list_any (λ instruction. not (plans.is_listed instruction (map (λ opcode. opcode.name) plan.now.opcodes))) access.now.instructions) 9 RegisterAccess) }
 {
     let length = known_length(plan, named, spelled(&access.register));
     if differs(length, access.length) {
@@ -201,14 +161,31 @@ fn access_refusal<'a>(
     if access.length == Some(0) {
         return refuse(6, Field::RegisterAccess);
     }
-    if access.length.is_some_and(|length| length > 65536) {
-        return refuse(7, Field::RegisterAccess);
-    }
     refuse_if(
-        names_without_opcode(access, without),
-        9,
+        access.length.is_some_and(|length| length > 65536),
+        7,
         Field::RegisterAccess,
     )
+}
+
+// The first cause in one access, where this is the length of the known register of its name, and these are the instructions of the opcodes.
+// Where there is none, those of the access have its register, unless they had one.
+fn access_refusal<'a>(
+    plan: &PartPlan,
+    mentioned: &mut NameIndex<'a, Option<&'a Text>>,
+    named: Option<u32>,
+    access: &'a Access,
+) -> Result<Option<PlanRefusal>, AllocError>
+    requires lists { indexes.Lists (map (λ opcode. opcode.name) plan.now.opcodes) mentioned.old }
+    ensures is { IfOk result (λ refusal. (known : List parts.NamedRegister) → named ≡ plans.length_named known access.now.register → refusal ≡ plans.access_refusal plan.now known access.now) }
+    ensures lists { OnOk result (indexes.Lists (map (λ opcode. opcode.name) plan.now.opcodes) mentioned.new) }
+    ensures awaits { IfOk result (λ refusal. refusal ≡ None → (rest all : List plans.AccessEntry) → indexes.Awaits (access.now ∷ rest) all mentioned.old → indexes.Awaits rest all mentioned.new) }
+{
+    if let Some(refusal) = register_refusal(plan, named, access) {
+        return Ok(Some(refusal));
+    }
+    let lacks = mention_register(mentioned, access)?;
+    Ok(refuse_if(lacks, 9, Field::RegisterAccess))
 }
 
 // The first cause among the lengths, the patterns and the captured digits.
@@ -228,30 +205,35 @@ pub fn code_refusal(plan: &PartPlan) -> Option<PlanRefusal>
     )
 }
 
-// The named registers of the accesses, or the first cause in them.
-#[tactic(auto, using(crate::proofs::NameIndexLaws::first_lack, crate::proofs::NameIndexLaws::rest_lack))]
-pub fn named_registers(alloc: Global, plan: &PartPlan) -> Result<Vec<DataRegister>, PartRefusal>
-    ensures accepted { IfOk result (λ named. plans.accesses_refusal plan.now [] plan.now.access ≡ None) }
-    ensures named { IfOk result (λ named. parts.named_of named.items ≡ plans.named_registers plan.now.access) }
-    ensures few { IfOk result (λ named. length named.items < 2 ^ 32 - 4) }
+// What the accesses name, or the first cause in them.
+pub fn register_index_of<'a>(
+    alloc: Global,
+    plan: &'a PartPlan,
+) -> Result<RegisterIndex<'a>, PartRefusal>
+    ensures accepted { IfOk result (λ index. plans.accesses_refusal plan.now [] plan.now.access ≡ None) }
+    ensures named { IfOk result (λ index. parts.named_of index.known.registers.items ≡ plans.named_registers plan.now.access) }
+    ensures few { IfOk result (λ index. length index.known.registers.items < 2 ^ 32 - 4) }
+    ensures places { IfOk result (λ index. indexes.Knows (parts.named_of index.known.registers.items) index.known.places) }
+    ensures mentions { IfOk result (λ index. indexes.Mentions plan.now.access (map (λ opcode. opcode.name) plan.now.opcodes) index.mentioned) }
     ensures refused { IfErr result (λ refusal. plans.RefusesAs refusal (plans.accesses_refusal plan.now [] plan.now.access)) }
 {
-    if plan.access.is_empty() {
-        return Ok(Vec::new(alloc));
-    }
-    let without = without_opcode(alloc, plan.access.as_slice(), plan.opcodes.as_slice())?;
     let mut known = KnownRegisters {
         registers: Vec::new(alloc),
-        lengths: NameIndex::new(alloc, plan.access.len())?,
+        places: NameIndex::new(alloc, plan.access.len())?,
     };
+    if plan.access.is_empty() {
+        let mentioned = NameIndex::new(alloc, 0)?;
+        return Ok(RegisterIndex { known, mentioned });
+    }
+    let mut mentioned = instructions(alloc, plan.opcodes.as_slice())?;
     for access in plan.access.as_slice() {
-        let length = known.lengths.find(access.register.as_str());
-        if let Some(refusal) = access_refusal(plan, &without, length, access) {
+        let length = known.length_named(access.register.as_str());
+        if let Some(refusal) = access_refusal(plan, &mut mentioned, length, access)? {
             return Err(refusal.into());
         }
         mention(alloc, &mut known, length, access)?;
     }
-    Ok(known.registers)
+    Ok(RegisterIndex { known, mentioned })
 }
 
 // The first cause in BOUNDARY_LENGTH, and in opcodes without an identification.

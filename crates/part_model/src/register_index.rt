@@ -1,135 +1,109 @@
-// Which data register an instruction selects.
-ghost use Rattle.std.specs.Prelude.{◌≡◌, ℕ, List, ◌≤◌, ◌<◌, ◌+◌, ◌-◌, ◌^◌, [], ◌∷◌, length, codes, true, ◌||◌, if◌then◌else◌, OnOk, IfOk};
-ghost use Rattle.std.specs.Option.{option_map, option_or};
+// What accesses name, and which data register an instruction selects.
+ghost use Rattle.std.specs.Prelude.{◌≡◌, ℕ, List, ◌≤◌, ◌<◌, ◌+◌, ◌-◌, ◌^◌, [], ◌∷◌, length, map, codes, true, false, not, ◌||◌, if◌then◌else◌, unwrap_or, None, OnOk, IfOk};
+ghost use Rattle.std.specs.List.{list_any};
+ghost use Rattle.std.specs.Option.{is_some, option_map, option_or};
 ghost use Rattle.part_model.specs.NameIndexes as indexes;
 ghost use Rattle.part_model.specs.Parts as parts;
 ghost use Rattle.part_model.specs.Plans as plans;
 
 use crate::name_index::NameIndex;
 use crate::names::{same_name, spelled};
-use crate::plan::Access;
-use crate::registers::{BOUNDARY, BYPASS, DataRegister, FIRST_NAMED, IDCODE, USERCODE};
+use crate::plan::{Access, Opcode};
+use crate::registers::{BOUNDARY, BYPASS, FIRST_NAMED, IDCODE, KnownRegisters, USERCODE};
 use base_types::Text;
 use std::alloc::{AllocError, Global};
 
-// The register that the accesses mention first for each instruction, and the place of each named register.
+// The named registers that accesses name, and for each instruction that has an opcode the register that an access names first for it.
 #[derive(Drop)]
 pub struct RegisterIndex<'a> {
-    mentioned: NameIndex<'a, &'a Text>,
-    places: NameIndex<'a, u32>,
+    pub known: KnownRegisters<'a>,
+    pub mentioned: NameIndex<'a, Option<&'a Text>>,
+}
+
+// The register of an instruction, where one was mentioned.
+fn told<'a>(found: Option<Option<&'a Text>>) -> Option<&'a Text>
+    ensures { option_map (λ name. name.now) result ≡ indexes.told found.entry }
+{
+    match found {
+        Some(name) => name,
+        None => None,
+    }
 }
 
 impl<'a> RegisterIndex<'a> {
-    // The index of these accesses and of the named registers, for so many opcodes.
-    pub fn new(
-        alloc: Global,
-        accesses: &'a [Access],
-        named: &'a [DataRegister],
-        opcode_count: usize,
-    ) -> Result<Self, AllocError>
-        requires { length named.now < 2 ^ 32 - 4 }
-        ensures mentioned { IfOk result (λ index. indexes.Mentions accesses.now index.mentioned) }
-        ensures places { IfOk result (λ index. indexes.Places (parts.named_of named.now) index.places) }
-    {
-        Ok(RegisterIndex {
-            mentioned: mentioned(alloc, accesses, opcode_count)?,
-            places: places(alloc, named)?,
-        })
-    }
-
     // The register that an instruction selects.
-    pub fn register_for(&self, named: &[DataRegister], instruction: &'a str) -> u32
-        requires few { length named.now < 2 ^ 32 - 4 }
-        requires places { indexes.Places (parts.named_of named.now) self.now.places }
-        ensures is { (accesses : List plans.AccessEntry) → indexes.Mentions accesses self.now.mentioned → parts.named_of named.now ≡ plans.named_registers accesses → parts.numbered result ≡ plans.register_for accesses instruction.now }
-        ensures within { (accesses : List plans.AccessEntry) → indexes.Mentions accesses self.now.mentioned → parts.named_of named.now ≡ plans.named_registers accesses → result < 4 + length named.now }
+    pub fn register_for(&self, instruction: &'a str) -> u32
+        requires few { length self.now.known.registers.items < 2 ^ 32 - 4 }
+        requires places { indexes.Knows (parts.named_of self.now.known.registers.items) self.now.known.places }
+        ensures is { (accesses : List plans.AccessEntry) → (instructions : List (List ℕ)) → indexes.Mentions accesses instructions self.now.mentioned → plans.is_listed instruction.now instructions ≡ true → parts.named_of self.now.known.registers.items ≡ plans.named_registers accesses → parts.numbered result ≡ plans.register_for accesses instruction.now }
+        ensures within { (accesses : List plans.AccessEntry) → (instructions : List (List ℕ)) → indexes.Mentions accesses instructions self.now.mentioned → plans.is_listed instruction.now instructions ≡ true → parts.named_of self.now.known.registers.items ≡ plans.named_registers accesses → result < 4 + length self.now.known.registers.items }
     {
-        match self.mentioned.find(instruction) {
-            Some(name) => register_named(&self.places, named, instruction, name),
+        match told(self.mentioned.find(instruction)) {
+            Some(name) => register_named(&self.known, instruction, name),
             None => default_register(instruction.as_bytes()),
         }
     }
 }
 
-// The register of an access, for those of its instructions that have none yet.
-fn add_access<'a>(
+// The instructions of the opcodes, for none of which a register was mentioned.
+pub fn instructions<'a>(
     alloc: Global,
-    index: &mut NameIndex<'a, &'a Text>,
+    opcodes: &'a [Opcode],
+) -> Result<NameIndex<'a, Option<&'a Text>>, AllocError>
+    ensures lists { IfOk result (indexes.Lists (map (λ opcode. opcode.name) opcodes.now)) }
+    ensures none { IfOk result (λ index. (name : List ℕ) → indexes.told (indexes.value_of index name) ≡ None) }
+{
+    let mut index = NameIndex::new(alloc, opcodes.len().max(1))?;
+    for opcode in opcodes {
+        index.add(alloc, opcode.name.as_str(), None)?;
+    }
+    Ok(index)
+}
+
+// The register of an access, for those of its instructions that have none yet. Whether one of them does not stand in the index.
+pub fn mention_register<'a>(
+    index: &mut NameIndex<'a, Option<&'a Text>>,
     access: &'a Access,
-) -> Result<(), AllocError>
-    ensures { OnOk result ((instruction : List ℕ) → option_map (λ name. name.now) (indexes.value_of index.new instruction) ≡ option_or (option_map (λ name. name.now) (indexes.value_of index.old instruction)) (plans.mentioned (access.now ∷ []) instruction)) }
+) -> Result<bool, AllocError>
+    ensures lacks { IfOk result (λ lacks. lacks ≡ list_any (λ instruction. not (is_some (indexes.value_of index.old instruction))) access.now.instructions) }
+    ensures kept { OnOk result ((name : List ℕ) → is_some (indexes.value_of index.new name) ≡ is_some (indexes.value_of index.old name)) }
+    ensures told { IfOk result (λ lacks. lacks ≡ false → (name : List ℕ) → is_some (indexes.value_of index.old name) ≡ true → indexes.told (indexes.value_of index.new name) ≡ option_or (indexes.told (indexes.value_of index.old name)) (plans.mentioned (access.now ∷ []) name)) }
 {
     for instruction in access.instructions.as_slice() {
-        index.add(alloc, instruction.as_str(), &access.register)?;
+        if !index.fill(instruction.as_str(), &access.register)? {
+            return Ok(true);
+        }
     }
-    Ok(())
+    Ok(false)
 }
 
-// How many instructions the accesses name.
-fn instruction_count(accesses: &[Access]) -> usize {
-    let mut count: usize = 0;
-    for access in accesses {
-        count = count.saturating_add(access.instructions.len());
-    }
-    count
-}
-
-// The register that an access names first, for each instruction. There is room for as many instructions as there are opcodes, since others
-// make no device type.
-pub fn mentioned<'a>(
-    alloc: Global,
-    accesses: &'a [Access],
-    opcode_count: usize,
-) -> Result<NameIndex<'a, &'a Text>, AllocError>
-    ensures { IfOk result (indexes.Mentions accesses.now) }
+// The place of a register, where this is its place and its length, or else another number.
+fn place_or(found: Option<(u32, u32)>, other: u32) -> u32
+    ensures { result ≡ unwrap_or (option_map (λ found. found.0) found) other }
 {
-    let count = instruction_count(accesses).min(opcode_count.max(1));
-    let mut index = NameIndex::new(alloc, count)?;
-    for access in accesses {
-        add_access(alloc, &mut index, access)?;
+    match found {
+        Some((place, _)) => place,
+        None => other,
     }
-    Ok(index)
-}
-
-// The place of each name among the registers.
-pub fn places<'a>(
-    alloc: Global,
-    named: &'a [DataRegister],
-) -> Result<NameIndex<'a, u32>, AllocError>
-    requires { length named.now < 2 ^ 32 - 4 }
-    ensures { IfOk result (indexes.Places (parts.named_of named.now)) }
-{
-    let mut index = NameIndex::new(alloc, named.len())?;
-    let mut place = 0;
-    for register in named {
-        index.add(alloc, register.name.as_str(), place)?;
-        place += 1;
-    }
-    Ok(index)
 }
 
 // The place of a name, or the count of registers where it is none of them.
-fn place_of_name<'a>(places: &NameIndex<'a, u32>, named: &[DataRegister], name: &'a str) -> u32
-    requires few { length named.now < 2 ^ 32 - 4 }
-    requires places { indexes.Places (parts.named_of named.now) places.now }
-    ensures is { result ≡ plans.place_of_name (parts.named_of named.now) name.now }
-    ensures bound { result ≤ length named.now }
-    ensures within { plans.is_listed name.now (plans.names_known (parts.named_of named.now)) ≡ true → result < length named.now }
+fn place_of_name<'a>(known: &KnownRegisters<'a>, name: &'a str) -> u32
+    requires few { length known.now.registers.items < 2 ^ 32 - 4 }
+    requires places { indexes.Knows (parts.named_of known.now.registers.items) known.now.places }
+    ensures is { result ≡ plans.place_of_name (parts.named_of known.now.registers.items) name.now }
+    ensures bound { result ≤ length known.now.registers.items }
+    ensures within { plans.is_listed name.now (plans.names_known (parts.named_of known.now.registers.items)) ≡ true → result < length known.now.registers.items }
 {
-    places.find(name).unwrap_or(named.len() as u32)
+    place_or(known.places.find(name), known.registers.len() as u32)
 }
 
 // The register of a name, for an instruction.
-fn register_named<'a>(
-    places: &NameIndex<'a, u32>,
-    named: &[DataRegister],
-    instruction: &str,
-    name: &'a Text,
-) -> u32
-    requires few { length named.now < 2 ^ 32 - 4 }
-    requires places { indexes.Places (parts.named_of named.now) places.now }
-    ensures is { parts.numbered result ≡ plans.register_named (parts.named_of named.now) instruction.now name.now }
-    ensures within { (plans.is_listed name.now plans.standard_names || plans.is_listed name.now (plans.names_known (parts.named_of named.now))) ≡ true → result < 4 + length named.now }
+fn register_named<'a>(known: &KnownRegisters<'a>, instruction: &str, name: &'a Text) -> u32
+    requires few { length known.now.registers.items < 2 ^ 32 - 4 }
+    requires places { indexes.Knows (parts.named_of known.now.registers.items) known.now.places }
+    ensures is { parts.numbered result ≡ plans.register_named (parts.named_of known.now.registers.items) instruction.now name.now }
+    ensures within { (plans.is_listed name.now plans.standard_names || plans.is_listed name.now (plans.names_known (parts.named_of known.now.registers.items))) ≡ true → result < 4 + length known.now.registers.items }
 {
     if same_name(spelled(name), b"BYPASS") {
         return BYPASS;
@@ -140,7 +114,7 @@ fn register_named<'a>(
     if same_name(spelled(name), b"DEVICE_ID") {
         return device_id(instruction.as_bytes());
     }
-    FIRST_NAMED + place_of_name(places, named, name.as_str())
+    FIRST_NAMED + place_of_name(known, name.as_str())
 }
 
 // DEVICE_ID for an instruction.

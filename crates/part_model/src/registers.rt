@@ -1,6 +1,7 @@
 // The data registers of a plan, by number: 0 BYPASS, 1 BOUNDARY, 2 and 3 DEVICE_ID by IDCODE and by USERCODE, and from 4 on the named
 // registers in the order of their first mention.
 ghost use Rattle.std.specs.Prelude.{◌≡◌, ◌<◌, ◌-◌, ◌^◌, ℕ, List, [], ◌∷◌, length, OnOk};
+ghost use Rattle.std.specs.Option.{option_map};
 ghost use Rattle.part_model.specs.NameIndexes as indexes;
 ghost use Rattle.part_model.specs.Parts as parts;
 ghost use Rattle.part_model.specs.Plans as plans;
@@ -28,11 +29,31 @@ pub struct DataRegister {
     pub length: u32,
 }
 
-// The named registers so far, and the length of each by its name.
+// The named registers so far, and the place and the length of each by its name.
 #[derive(Drop)]
 pub struct KnownRegisters<'a> {
     pub registers: Vec<DataRegister>,
-    pub lengths: NameIndex<'a, u32>,
+    pub places: NameIndex<'a, (u32, u32)>,
+}
+
+// The length of a register, where this is its place and its length.
+fn length_of(found: Option<(u32, u32)>) -> Option<u32>
+    ensures { result ≡ option_map (λ found. found.1) found }
+{
+    match found {
+        Some((_, length)) => Some(length),
+        None => None,
+    }
+}
+
+impl<'a> KnownRegisters<'a> {
+    // The length of the register of a name.
+    pub fn length_named(&self, name: &'a str) -> Option<u32>
+        requires { indexes.Knows (parts.named_of self.now.registers.items) self.now.places }
+        ensures { result ≡ plans.length_named (parts.named_of self.now.registers.items) name.now }
+    {
+        length_of(self.places.find(name))
+    }
 }
 
 // Whether a register is among those known, where this is the length of the known one of its name.
@@ -45,7 +66,7 @@ fn is_known(length: Option<u32>) -> bool
 // So many named registers have numbers of 32 bits behind the first four, with one to spare.
 const MOST_NAMED: usize = 4_294_967_291;
 
-// One more access: its register joins those known, unless it is there, with its length, or the standard names it. The error comes where
+// One more access: its register joins those known with its length, unless it is there, or the standard names it. The error comes where
 // memory is wanting, or the numbers are.
 pub fn mention<'a>(
     alloc: Global,
@@ -55,10 +76,10 @@ pub fn mention<'a>(
 ) -> Result<(), AllocError>
     requires length { known_length ≡ plans.length_named (parts.named_of known.old.registers.items) access.now.register }
     requires few { length known.old.registers.items < 2 ^ 32 - 4 }
-    requires lengths { indexes.Lengths (parts.named_of known.old.registers.items) known.old.lengths }
+    requires places { indexes.Knows (parts.named_of known.old.registers.items) known.old.places }
     ensures is { OnOk result (parts.named_of known.new.registers.items ≡ plans.named_after (parts.named_of known.old.registers.items) (access.now ∷ [])) }
     ensures few { OnOk result (length known.new.registers.items < 2 ^ 32 - 4) }
-    ensures lengths { OnOk result (indexes.Lengths (parts.named_of known.new.registers.items) known.new.lengths) }
+    ensures places { OnOk result (indexes.Knows (parts.named_of known.new.registers.items) known.new.places) }
 {
     let name = access.register.as_str();
     if is_standard(name.as_bytes()) || is_known(known_length) {
@@ -72,7 +93,8 @@ pub fn mention<'a>(
         name: copy_name(alloc, &access.register)?,
         length,
     };
-    known.lengths.add(alloc, name, length)?;
+    let place = known.registers.len() as u32;
+    known.places.add(alloc, name, (place, length))?;
     known.registers.push(register)?;
     Ok(())
 }

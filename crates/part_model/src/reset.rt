@@ -1,6 +1,6 @@
 // The reset code and the identification of a plan that has codes of the right lengths.
-ghost use Rattle.std.specs.Prelude.{◌≡◌, ◌≤◌, ◌<◌, ◌+◌, ◌-◌, ◌^◌, true, false, length, map, IfOk, IfErr, None};
-ghost use Rattle.std.specs.List.{list_any};
+ghost use Rattle.std.specs.Prelude.{◌≡◌, ◌≤◌, ◌<◌, ◌+◌, ◌-◌, ◌^◌, nat_lt, true, false, length, map, IfOk, IfErr, None};
+ghost use Rattle.std.specs.List.{list_any, list_all};
 ghost use Rattle.std.specs.Option.{option_map};
 ghost use Rattle.scan_bits.specs.Words.{bits_of};
 ghost use Rattle.part_model.specs.Parts as parts;
@@ -13,8 +13,8 @@ use crate::codes::{code_of, is_odd, ones, word_of};
 use crate::names::{same_name, spelled};
 use crate::plan::{Opcode, PartPlan, PartRefusal};
 use crate::refusals::has_opcode;
-use crate::registers::{DataRegister, IDCODE};
-use crate::selections::{Selection, selected, selections};
+use crate::registers::IDCODE;
+use crate::selections::{Registers, Selection, selected, selections};
 use std::alloc::Global;
 
 // The code of the first pattern of the first IDCODE opcode, or all ones.
@@ -86,21 +86,22 @@ fn is_idcode(register: u32) -> bool
     register == IDCODE
 }
 
-// The instructions of a plan, or cause 8, for the named registers and the reset code of the plan.
+// The instructions of a plan, or cause 8, for the registers that they select and the reset code of the plan.
 pub fn identified(
     alloc: Global,
     plan: PartPlan,
-    named: &[DataRegister],
+    registers: &Registers,
     reset_code: u64,
 ) -> Result<Vec<Selection>, PartRefusal>
     requires lengths { plans.code_refusal plan ≡ None }
     requires patterns { plans.all_have_patterns plan.opcodes ≡ true }
-    requires few { length named.now < 2 ^ 32 - 4 }
-    requires named { parts.named_of named.now ≡ plans.named_registers plan.access }
+    requires are { plans.with_registers plan.opcodes registers.now.selected.items ≡ map (plans.opcode_of plan.access) plan.opcodes }
+    requires counts { length registers.now.selected.items ≡ length plan.opcodes }
+    requires within { list_all (λ register. nat_lt register (4 + length registers.now.named.items)) registers.now.selected.items ≡ true }
     requires reset { bits_of plan.ir_len reset_code ≡ plans.reset_of plan.idcode plan.ir_len plan.opcodes }
     ensures accepted { IfOk result (λ found. plans.identification_refusal plan.idcode plan ≡ None) }
     ensures are { IfOk result (λ found. parts.instructions_of found.items ≡ map (plans.opcode_of plan.access) plan.opcodes) }
-    ensures within { IfOk result (λ found. parts.all_below (4 + length named.now) found.items ≡ true) }
+    ensures within { IfOk result (λ found. parts.all_below (4 + length registers.now.named.items) found.items ≡ true) }
     ensures refused { IfErr result (λ refusal. plans.RefusesAs refusal (plans.identification_refusal plan.idcode plan)) }
 {
     let listed = has_opcode(plan.opcodes.as_slice(), b"IDCODE");
@@ -110,10 +111,10 @@ pub fn identified(
         capture: _,
         idcode,
         usercode: _,
-        access,
+        access: _,
         boundary: _,
     } = plan;
-    let found = selections(alloc, ir_len, opcodes.into_vec(), access.as_slice(), named)?;
+    let found = selections(alloc, ir_len, opcodes.into_vec(), registers)?;
     let Some(pattern) = idcode else {
         return Ok(found);
     };

@@ -1,15 +1,17 @@
 // Instructions with the registers that they select.
-ghost use Rattle.std.specs.Prelude.{◌≡◌, ℕ, List, ◌≤◌, ◌<◌, ◌+◌, ◌-◌, ◌^◌, nat_lt, true, false, length, map, IfOk, IfSome};
+ghost use Rattle.std.specs.Prelude.{◌≡◌, ℕ, List, ◌≤◌, ◌<◌, ◌+◌, ◌-◌, ◌^◌, [], nat_lt, true, false, length, map, IfOk, IfErr, IfSome, None};
 ghost use Rattle.std.specs.List.{list_any, list_all};
 ghost use Rattle.std.specs.Option.{option_map};
 ghost use Rattle.scan_bits.specs.Words.{bits_of};
+ghost use Rattle.part_model.specs.NameIndexes as indexes;
 ghost use Rattle.part_model.specs.Parts as parts;
 ghost use Rattle.part_model.specs.Plans as plans;
 
 use crate::codes::all_ones;
 use crate::names::copy_name;
 use crate::patterns::CodePatterns;
-use crate::plan::{Access, Opcode};
+use crate::plan::{Opcode, PartPlan, PartRefusal};
+use crate::refusals::register_index_of;
 use crate::register_index::RegisterIndex;
 use crate::registers::{BYPASS, DataRegister};
 use base_types::Text;
@@ -44,46 +46,73 @@ fn selection_of(
     })
 }
 
-// The numbers of the registers that the opcodes select, in order.
+// The named registers of a plan, and the numbers of the registers that its opcodes select, in order.
+#[derive(Drop)]
+pub struct Registers {
+    pub named: Vec<DataRegister>,
+    pub selected: Vec<u32>,
+}
+
+// The numbers of the registers that the opcodes of a plan select, in order.
 fn selected_registers<'a>(
     alloc: Global,
-    opcodes: &'a [Opcode],
-    accesses: &'a [Access],
-    named: &'a [DataRegister],
+    plan: &'a PartPlan,
+    index: &RegisterIndex<'a>,
 ) -> Result<Vec<u32>, AllocError>
-    requires few { length named.now < 2 ^ 32 - 4 }
-    requires named { parts.named_of named.now ≡ plans.named_registers accesses.now }
-    ensures are { IfOk result (λ found. map parts.numbered found.items ≡ map (λ opcode. plans.register_for accesses.now opcode.name) opcodes.now) }
-    ensures within { IfOk result (λ found. list_all (λ register. nat_lt register (4 + length named.now)) found.items ≡ true) }
+    requires few { length index.now.known.registers.items < 2 ^ 32 - 4 }
+    requires places { indexes.Knows (parts.named_of index.now.known.registers.items) index.now.known.places }
+    requires mentions { indexes.Mentions plan.now.access (map (λ opcode. opcode.name) plan.now.opcodes) index.now.mentioned }
+    requires named { parts.named_of index.now.known.registers.items ≡ plans.named_registers plan.now.access }
+    ensures are { IfOk result (λ found. map parts.numbered found.items ≡ map (λ opcode. plans.register_for plan.now.access opcode.name) plan.now.opcodes) }
+    ensures within { IfOk result (λ found. list_all (λ register. nat_lt register (4 + length index.now.known.registers.items)) found.items ≡ true) }
 {
-    let index = RegisterIndex::new(alloc, accesses, named, opcodes.len())?;
-    let mut found = Vec::with_capacity(alloc, opcodes.len())?;
-    for opcode in opcodes {
-        found.push(index.register_for(named, opcode.name.as_str()))?;
+    let mut found = Vec::with_capacity(alloc, plan.opcodes.len())?;
+    for opcode in plan.opcodes.as_slice() {
+        found.push(index.register_for(opcode.name.as_str()))?;
     }
     Ok(found)
 }
 
-// The instructions of all opcodes, in order, whose patterns have so many digits.
+// The registers of a plan, or the first cause in its accesses.
+pub fn registers_of(alloc: Global, plan: &PartPlan) -> Result<Registers, PartRefusal>
+    ensures accepted { IfOk result (λ registers. plans.accesses_refusal plan.now [] plan.now.access ≡ None) }
+    ensures named { IfOk result (λ registers. parts.named_of registers.named.items ≡ plans.named_registers plan.now.access) }
+    ensures few { IfOk result (λ registers. length registers.named.items < 2 ^ 32 - 4) }
+    ensures are { IfOk result (λ registers. plans.with_registers plan.now.opcodes registers.selected.items ≡ map (plans.opcode_of plan.now.access) plan.now.opcodes) }
+    ensures counts { IfOk result (λ registers. length registers.selected.items ≡ length plan.now.opcodes) }
+    ensures within { IfOk result (λ registers. list_all (λ register. nat_lt register (4 + length registers.named.items)) registers.selected.items ≡ true) }
+    ensures refused { IfErr result (λ refusal. plans.RefusesAs refusal (plans.accesses_refusal plan.now [] plan.now.access)) }
+{
+    let index = register_index_of(alloc, plan)?;
+    let selected = selected_registers(alloc, plan, &index)?;
+    let RegisterIndex {
+        known,
+        mentioned: _,
+    } = index;
+    Ok(Registers {
+        named: known.registers,
+        selected,
+    })
+}
+
+// The instructions of all opcodes, in order, whose patterns have so many digits, with the registers that they select.
 pub fn selections(
     alloc: Global,
     count: u32,
     opcodes: Vec<Opcode>,
-    accesses: &[Access],
-    named: &[DataRegister],
+    registers: &Registers,
 ) -> Result<Vec<Selection>, AllocError>
     requires most { count ≤ 64 }
     requires lengths { plans.any_of_another_length count opcodes.items ≡ false }
     requires patterns { plans.all_have_patterns opcodes.items ≡ true }
-    requires few { length named.now < 2 ^ 32 - 4 }
-    requires named { parts.named_of named.now ≡ plans.named_registers accesses.now }
-    ensures are { IfOk result (λ found. parts.instructions_of found.items ≡ map (plans.opcode_of accesses.now) opcodes.items) }
-    ensures within { IfOk result (λ found. parts.all_below (4 + length named.now) found.items ≡ true) }
+    requires counts { length registers.now.selected.items ≡ length opcodes.items }
+    requires within { list_all (λ register. nat_lt register (4 + length registers.now.named.items)) registers.now.selected.items ≡ true }
+    ensures are { IfOk result (λ found. parts.instructions_of found.items ≡ plans.with_registers opcodes.items registers.now.selected.items) }
+    ensures within { IfOk result (λ found. parts.all_below (4 + length registers.now.named.items) found.items ≡ true) }
 {
-    let registers = selected_registers(alloc, opcodes.as_slice(), accesses, named)?;
     let mut found = Vec::with_capacity(alloc, opcodes.len())?;
     for opcode in opcodes {
-        let register = registers[found.len()];
+        let register = registers.selected[found.len()];
         found.push(selection_of(alloc, count, opcode, register)?)?;
     }
     Ok(found)

@@ -59,7 +59,7 @@ impl Loads {
             return Ok(());
         }
         let answer = copied(alloc, answer)?;
-        let name = Text::from_string(String::from_str(alloc, name)?);
+        let name = Text::from_str(alloc, name)?;
         self.list.push(Load { name, answer })?;
         Ok(())
     }

@@ -1,8 +1,8 @@
 -- A group of neighbours.
-use Rattle.std.proofs.Common.{◌≡◌, ◌≤◌, ◌<◌, ◌+◌, ◌-◌, ℕ, zero, suc, Bool, true, false, List, [], ◌∷◌, ◌++◌, length, replicate, refl, ap, sym, ◌∙◌, arith, Some, append_assoc, nat_eq, subst}
+use Rattle.std.proofs.Common.{◌≡◌, ◌≤◌, ◌<◌, ◌+◌, ◌-◌, ℕ, zero, suc, Bool, true, false, List, [], ◌∷◌, ◌++◌, length, replicate, refl, ap, sym, ◌∙◌, arith, Some, append_assoc, nat_eq, subst, min, inl, inr}
 use Rattle.std.specs.Prelude.{slice_get}
 use Rattle.std.specs.List.{slice_index_or, sum_by}
-use Rattle.std.proofs.lemmas.Bool.{eqb-true}
+use Rattle.std.proofs.lemmas.Bool.{cases_lt, eqb-true}
 use Rattle.std.proofs.lemmas.List.{append-nil, replicate-append-replicate}
 use Rattle.std.proofs.lemmas.List.Sums.{sum_by-cons}
 use Rattle.std.proofs.lemmas.Option.{same_Some, slice_get_within}
@@ -115,6 +115,19 @@ pub run_from : (before count own : ℕ) (rest : List Bool) → before ≡ 0 → 
     → replicate count true ++ (replicate before false ++ (replicate (own - count) true ++ rest)) ≡ replicate before false ++ (replicate own true ++ rest)
 run_from before count own rest used le =
     ap (λ q. replicate count true ++ q) (no_run before false (replicate (own - count) true ++ rest) used) ∙ run_split count own true rest le ∙ sym (no_run before false (replicate own true ++ rest) used)
+
+pub both_runs : (before others own count most : ℕ) (rest : List Bool) → others ≡ min before most → count ≤ own → count ≤ most - others
+    → replicate others false ++ (replicate count true ++ (replicate (before - others) false ++ (replicate (own - count) true ++ rest))) ≡ replicate before false ++ (replicate own true ++ rest)
+both_runs before others own count most rest is le few =
+    ap (λ q. replicate others false ++ q) behind ∙ run_split others before false (replicate own true ++ rest) (omega (arith, is))
+  where
+    behind : replicate count true ++ (replicate (before - others) false ++ (replicate (own - count) true ++ rest)) ≡ replicate (before - others) false ++ (replicate own true ++ rest)
+    behind = elim (cases_lt most before) [
+      | inl lt ↦
+          let none : count ≡ 0 = omega (arith, is, few, lt) in
+          no_run count true (replicate (before - others) false ++ (replicate (own - count) true ++ rest)) none ∙ ap (λ k. replicate (before - others) false ++ (replicate k true ++ rest)) (omega (arith, none))
+      | inr ge ↦ run_from (before - others) count own rest (omega (arith, is, ge)) le
+    ]
 
 pub last_run : (before own count behind : ℕ) → before ≡ 0 → own ≡ 0 → count ≤ behind
     → replicate count false ++ (replicate before false ++ (replicate own true ++ replicate (behind - count) false)) ≡ replicate before false ++ (replicate own true ++ replicate behind false)

@@ -1,5 +1,5 @@
 -- The group's bits among those of a word, run by run.
-use Rattle.std.proofs.Common.{◌≡◌, ◌≤◌, ◌<◌, ◌+◌, ◌-◌, ◌*◌, ◌/◌, ◌%◌, ◌^◌, bit_or, ℕ, Bool, true, false, List, [], ◌∷◌, ◌++◌, length, replicate, refl, ap, sym, ◌∙◌, arith, length-append}
+use Rattle.std.proofs.Common.{◌≡◌, ◌≤◌, ◌<◌, ◌+◌, ◌-◌, ◌*◌, ◌/◌, ◌%◌, ◌^◌, bit_or, ℕ, Bool, true, false, List, [], ◌∷◌, ◌++◌, length, replicate, refl, ap, sym, subst, ◌∙◌, arith, length-append}
 use Rattle.std.proofs.lemmas.List.{append-nil, length-replicate}
 use Rattle.scan_bits.specs.Words.{bits_of}
 use Rattle.scan_bits.proofs.WordLaws.{bits_of-mod}
@@ -47,7 +47,7 @@ none_gathered n word places left = record {
 run_long : (k : ℕ) (own : Bool) (rest places : List Bool) → replicate k own ++ rest ≡ places → k + length rest ≡ length places
 run_long k own rest places is = omega (arith, ap length is, length-append (replicate k own) rest, length-replicate k own)
 
-pub own_gathered : (n word done count bits k next total : ℕ) (own : Bool) (before places rest : List Bool) → Gathered n word done count bits before places → done < n → k ≤ n - done → own ≡ true
+pub own_gathered : (n word done count bits k next total : ℕ) (own : Bool) (before places rest : List Bool) → Gathered n word done count bits before places → done ≤ n → k ≤ n - done → own ≡ true
     → replicate k own ++ rest ≡ places → total ≡ count + k → bits_of total next ≡ bits_of count bits ++ bits_of k (word / 2 ^ done) → next < 2 ^ total
     → Gathered n word (done + k) total next before rest
 own_gathered n word done count bits k next total own before places rest was lt le own_is is total_is next_is bound = record {
@@ -69,7 +69,7 @@ own_gathered n word done count bits k next total own before places rest was lt l
       );
 }
 
-pub other_gathered : (n word done count bits k : ℕ) (own : Bool) (before places rest : List Bool) → Gathered n word done count bits before places → done < n → k ≤ n - done → own ≡ false
+pub other_gathered : (n word done count bits k : ℕ) (own : Bool) (before places rest : List Bool) → Gathered n word done count bits before places → done ≤ n → k ≤ n - done → own ≡ false
     → replicate k own ++ rest ≡ places → Gathered n word (done + k) count bits before rest
 other_gathered n word done count bits k own before places rest was lt le own_is is = record {
   within = omega (arith, le, lt);
@@ -85,6 +85,24 @@ other_gathered n word done count bits k own before places rest was lt le own_is 
       (now.0, omega (arith, same, other_left k (m - count) own rest places own_is is));
 }
 
+-- a run of others, and then of the group's own
+pub run_gathered : (n word done count bits others own next total : ℕ) (before places rest : List Bool) → Gathered n word done count bits before places → others + own ≤ n - done
+    → replicate others false ++ (replicate own true ++ rest) ≡ places → total ≡ count + own → bits_of total next ≡ bits_of count bits ++ bits_of own (word / 2 ^ (done + others)) → next < 2 ^ total
+    → Gathered n word (done + (others + own)) total next before rest
+run_gathered n word done count bits others own next total before places rest was le is total_is next_is bound =
+    let passed = other_gathered n word done count bits others false before places (replicate own true ++ rest) was was.within (omega (arith, le)) refl is in
+    let sum : done + others + own ≡ done + (others + own) = omega arith in
+    subst (λ m. Gathered n word m total next before rest) sum
+    (own_gathered n word (done + others) count bits own next total true before (replicate own true ++ rest) rest passed (omega (arith, le, was.within)) (omega (arith, le)) refl refl total_is next_is bound)
+
+-- the first run
+pub first_gathered : (n word others own next total : ℕ) (before rest : List Bool) → n ≤ length before → others + own ≤ n → replicate others false ++ (replicate own true ++ rest) ≡ before → total ≡ 0 + own
+    → bits_of total next ≡ bits_of own (word / 2 ^ (0 + others)) → next < 2 ^ total → Gathered n word (others + own) total next before rest
+first_gathered n word others own next total before rest left le is total_is next_is bound =
+    let none : 0 + (others + own) ≡ others + own = omega arith in
+    subst (λ m. Gathered n word m total next before rest) none
+    (run_gathered n word 0 0 0 others own next total before before rest (none_gathered n word before left) (omega (arith, le)) is total_is next_is bound)
+
 pub all_gathered : (n word done count bits : ℕ) (before after : List Bool) → Gathered n word done count bits before after → n ≤ done → TakesOwn n word count bits before after
 all_gathered n word done count bits before after was le =
     let e : done ≡ n = omega (arith, le, was.within) in
@@ -95,6 +113,15 @@ all_gathered n word done count bits before after was le =
       taken = λ more. ap (λ k. bits_of count bits ++ chosen after (bits_of k (word / 2 ^ done) ++ more)) (sym none) ∙ was.taken more;
       room = λ m fits. let now = was.room m fits in let same = now.1 in (now.0, omega (arith, same, e));
     }
+
+-- a run of the group's own that is all of the word
+pub whole_run : (n word others own : ℕ) (before rest : List Bool) → n ≤ length before → others + own ≤ n → own ≡ n → replicate others false ++ (replicate own true ++ rest) ≡ before → word < 2 ^ n → TakesOwn n word n word before rest
+whole_run n word others own before rest left le whole is bound =
+    let none : others ≡ 0 = omega (arith, le, whole) in
+    let size : n ≡ 0 + own = omega (arith, whole) in
+    let same : word ≡ word / 2 ^ (0 + others) = let e : word ≡ word / 2 ^ 0 = omega arith in e ∙ ap (λ k. word / 2 ^ k) {x = 0} {y = 0 + others} (omega (arith, none)) in
+    all_gathered n word (others + own) n word before rest
+    (first_gathered n word others own word n before rest left le is size (ap (λ k. bits_of k word) (sym whole) ∙ ap (bits_of own) same) bound) (omega (arith, whole))
 
 -- ---- a sink
 

@@ -282,9 +282,9 @@ own_left group widths own place width rises size some here wide =
     ap (λ q. q ++ marks_below group widths (place - 1)) (sym (own_mark group widths own (place - 1) width rises size here wide)) ∙ ap (marks_below group widths) e
 
 -- where something is left, a device is
-pub place_left : (group widths : List ℕ) (place count : ℕ) (own : Bool) → count ≡ 0 → 1 ≤ length (marks_left group widths place count own) → 1 ≤ place
-place_left group widths zero count own none some = absurd (let e : 1 ≤ 0 = subst (λ n. 1 ≤ length (replicate n own ++ [])) none some in omega (arith, e))
-place_left group widths (suc place) count own none some = omega arith
+pub place_left : (group widths : List ℕ) (place count : ℕ) → count ≡ 0 → 1 ≤ length (marks_left group widths place count) → 1 ≤ place
+place_left group widths zero count none some = absurd (let e : 1 ≤ 0 = subst (λ n. 1 ≤ length (replicate n true ++ [])) none some in omega (arith, e))
+place_left group widths (suc place) count none some = omega arith
 
 -- a run that is used up
 pub no_run : (count : ℕ) (own : Bool) (rest : List Bool) → count ≡ 0 → replicate count own ++ rest ≡ rest
@@ -292,17 +292,39 @@ no_run count own rest none = ap (λ n. replicate n own ++ rest) none
 
 -- ---- the next run
 
-pub end_row : (group widths : List ℕ) (own place end : ℕ) → IsRow group widths own place → (own ≡ 0 → end ≡ 0) → (1 ≤ own → slice_get group (own - 1) ≡ Some (end - 1)) → (1 ≤ own → 1 ≤ end) → end ≤ place
-    → IsRow group widths own end
-end_row group widths own place end row none some bound le = record {
+-- the last of those that are left is before this place, or there is none
+pub record IsEnd (group : List ℕ) (own end : ℕ) : Type 0 where
+  pub none : own ≡ 0 → end ≡ 0
+  pub some : 1 ≤ own → slice_get group (own - 1) ≡ Some (end - 1)
+  pub bound : 1 ≤ own → 1 ≤ end
+
+-- up to a place between there are only others
+split_within : (group : List ℕ) (own place end at : ℕ) → RisesFrom 0 group → IsSplit group own place → IsEnd group own end → end ≤ at → at ≤ place → IsSplit group own at
+split_within group own place end at rises split is low high = record {
+  below = λ i other lt here. omega (arith, low, (split_end group own place end rises split is.none is.some is.bound (omega (arith, low, high))).below i other lt here);
+  above = λ i other from here. omega (arith, high, split.above i other from here);
+}
+
+pub passed_row : (group widths : List ℕ) (own place end at : ℕ) → IsRow group widths own place → IsEnd group own end → end ≤ at → at ≤ place → IsRow group widths own at
+passed_row group widths own place end at row is low high = record {
   rising = row.rising;
   counted = row.counted;
   wide = row.wide;
   low = row.low;
-  few = omega (arith, row.few, le);
+  few = omega (arith, row.few, high);
   within = row.within;
-  split = split_end group own place end row.rising row.split none some bound le;
+  split = split_within group own place end at row.rising row.split is low high;
 }
+
+pub passed_marks : (group widths : List ℕ) (own place end at others count : ℕ) → IsRow group widths own place → IsEnd group own end → end ≤ at → others + at ≡ place → count ≡ 0
+    → replicate others false ++ marks_left group widths at count ≡ marks_left group widths place count
+passed_marks group widths own place end at others count row is low sum used =
+    ap (λ q. replicate others false ++ q) (no_run count true (marks_below group widths at) used)
+    ∙ others_left group widths own place at others row.counted row.split (split_within group own place end at row.rising row.split is low (omega (arith, sum))) sum
+    ∙ sym (no_run count true (marks_below group widths place) used)
+
+pub next_at_end : (group : List ℕ) (own end : ℕ) → IsEnd group own end → 1 ≤ own → IsNext group own end
+next_at_end group own end is some = record { some = some; left = is.bound some; here = is.some some }
 
 pub before_row : (group widths : List ℕ) (own place : ℕ) → IsRow group widths own place → IsNext group own place → IsRow group widths (own - 1) (place - 1)
 before_row group widths own place row next = record {
@@ -315,52 +337,38 @@ before_row group widths own place row next = record {
   split = split_before group own place row.rising next.some next.here;
 }
 
-pub end_marks : (group widths : List ℕ) (own place end count : ℕ) (is_own : Bool) → IsRow group widths own place → count ≡ 0 → (own ≡ 0 → end ≡ 0) → (1 ≤ own → slice_get group (own - 1) ≡ Some (end - 1)) → (1 ≤ own → 1 ≤ end) → end ≤ place
-    → marks_left group widths end (place - end) false ≡ marks_left group widths place count is_own
-end_marks group widths own place end count is_own row used none some bound le =
-    others_left group widths own place end (place - end) row.counted row.split (split_end group own place end row.rising row.split none some bound le) (omega (arith, le))
-    ∙ sym (no_run count is_own (marks_below group widths place) used)
-
 pub next_width : (group widths : List ℕ) (own place : ℕ) → IsRow group widths own place → IsNext group own place → slice_get widths (own - 1) ≡ Some (slice_index_or widths (own - 1) 0)
 next_width group widths own place row next = read_at widths (own - 1) 0 (omega (arith, row.counted, row.within, next.some))
 
-own_run : (count : ℕ) (is_own : Bool) (rest : List Bool) → (1 ≤ count → is_own ≡ true) → replicate count true ++ rest ≡ replicate count is_own ++ rest
-own_run zero is_own rest same = refl
-own_run (suc n) is_own rest same = ap (λ o. replicate (suc n) o ++ rest) (sym (same (omega arith)))
-
--- a run of the group's own, and the next device's bits behind it
-pub more_marks : (group widths : List ℕ) (own place count : ℕ) (is_own : Bool) → IsRow group widths own place → IsNext group own place → (1 ≤ count → is_own ≡ true)
-    → marks_left group widths (place - 1) (count + slice_index_or widths (own - 1) 0) true ≡ marks_left group widths place count is_own
-more_marks group widths own place count is_own row next same =
+-- bits of the group's own, and the next device's behind them
+pub more_marks : (group widths : List ℕ) (own place count : ℕ) → IsRow group widths own place → IsNext group own place
+    → marks_left group widths (place - 1) (count + slice_index_or widths (own - 1) 0) ≡ marks_left group widths place count
+more_marks group widths own place count row next =
     ap (λ q. q ++ marks_below group widths (place - 1)) (sym (replicate-append-replicate count (slice_index_or widths (own - 1) 0) true))
     ∙ append_assoc (replicate count true) (replicate (slice_index_or widths (own - 1) 0) true) (marks_below group widths (place - 1))
     ∙ ap (λ q. replicate count true ++ q)
     (own_left group widths (own - 1) place (slice_index_or widths (own - 1) 0) row.rising row.counted next.left next.here (next_width group widths own place row next))
-    ∙ own_run count is_own (marks_below group widths place) same
 
 -- a run of the group's own, which is next among the marks
-pub record OwnRun (group widths : List ℕ) (own place bits : ℕ) (is_own : Bool) (all : List Bool) : Type 0 where
-  pub same : marks_left group widths place bits is_own ≡ all
+pub record OwnRun (group widths : List ℕ) (own place bits : ℕ) (all : List Bool) : Type 0 where
+  pub same : marks_left group widths place bits ≡ all
   pub row : IsRow group widths own place
   pub some : 1 ≤ bits
-  pub own_is : is_own ≡ true
 
-pub first_run : (group widths : List ℕ) (own place bits : ℕ) (is_own : Bool) → IsRow group widths own place → IsNext group own place → bits ≡ 0
-    → OwnRun group widths (own - 1) (place - 1) (bits + slice_index_or widths (own - 1) 0) true (marks_left group widths place bits is_own)
-first_run group widths own place bits is_own row next used = record {
-  same = more_marks group widths own place bits is_own row next (λ some. absurd (omega (arith, some, used)));
+pub first_run : (group widths : List ℕ) (own place bits : ℕ) → IsRow group widths own place → IsNext group own place
+    → OwnRun group widths (own - 1) (place - 1) (bits + slice_index_or widths (own - 1) 0) (marks_left group widths place bits)
+first_run group widths own place bits row next = record {
+  same = more_marks group widths own place bits row next;
   row = before_row group widths own place row next;
   some = let wide = row.wide _ _ (next_width group widths own place row next) in omega (arith, wide);
-  own_is = refl;
 }
 
-pub more_run : (group widths : List ℕ) (own place bits : ℕ) (is_own : Bool) (all : List Bool) → OwnRun group widths own place bits is_own all → IsNext group own place
-    → OwnRun group widths (own - 1) (place - 1) (bits + slice_index_or widths (own - 1) 0) true all
-more_run group widths own place bits is_own all run next = record {
-  same = more_marks group widths own place bits is_own run.row next (λ some. run.own_is) ∙ run.same;
+pub more_run : (group widths : List ℕ) (own place bits : ℕ) (all : List Bool) → OwnRun group widths own place bits all → IsNext group own place
+    → OwnRun group widths (own - 1) (place - 1) (bits + slice_index_or widths (own - 1) 0) all
+more_run group widths own place bits all run next = record {
+  same = more_marks group widths own place bits run.row next ∙ run.same;
   row = before_row group widths own place run.row next;
   some = omega (arith, run.some);
-  own_is = refl;
 }
 
 -- the row of a scan

@@ -94,9 +94,9 @@ abbrev pub marks_below : List ℕ → List ℕ → ℕ → List Bool
 marks_below group widths zero = []
 marks_below group widths (suc place) = code_during group (map (λ width. replicate width true) widths) place (false ∷ []) ++ marks_below group widths place
 
--- and so many bits of a run before them
-abbrev pub marks_left : List ℕ → List ℕ → ℕ → ℕ → Bool → List Bool
-marks_left group widths place count own = replicate count own ++ marks_below group widths place
+-- and so many bits of the group's own before them
+abbrev pub marks_left : List ℕ → List ℕ → ℕ → ℕ → List Bool
+marks_left group widths place count = replicate count true ++ marks_below group widths place
 
 -- the codes of a chain's devices are loaded: those below a place are left, and so many bits of a word before them
 pub record IsLoad (parts : List DeviceType) (codes : List ℕ) (place count bits : ℕ) : Type 0 where

@@ -1,5 +1,5 @@
 // The bits of a scan of data registers for a group whose devices are neighbours.
-ghost use Rattle.std.specs.Prelude.{◌≡◌, ◌≤◌, ◌<◌, ◌++◌, Bool, List, length, replicate, true, false};
+ghost use Rattle.std.specs.Prelude.{◌≡◌, ◌≤◌, ◌<◌, ◌++◌, Bool, List, length, min, replicate, true, false};
 ghost use Rattle.std.specs.List.{All};
 ghost use Rattle.grant_table.specs.Apart.{RisesFrom};
 ghost use Rattle.scan_bits.specs.Registers.{joined};
@@ -56,9 +56,7 @@ impl Neighbours {
 
 // So many bits of a run that has `left` of them, at most `most`.
 fn part_of(left: usize, most: u32) -> u32
-    ensures within { result ≤ left }
-    ensures few { result ≤ most }
-    ensures some { 1 ≤ left → 1 ≤ most → 1 ≤ result }
+    ensures { result ≡ min left most }
 {
     left.min(most as usize) as u32
 }
@@ -67,18 +65,22 @@ impl ScanRuns for Neighbours {
     ghost marks = { λ n. replicate n.before false ++ (replicate n.own true ++ replicate n.behind false) };
 
     fn next(&mut self, most: u32) -> Run {
-        if self.before > 0 {
-            let count = part_of(self.before, most);
-            self.before -= count as usize;
-            return Run { own: false, count };
+        if self.before == 0 && self.own >= most as usize {
+            self.own -= most as usize;
+            return Run {
+                others: 0,
+                own: most,
+            };
         }
-        if self.own > 0 {
-            let count = part_of(self.own, most);
-            self.own -= count as usize;
-            return Run { own: true, count };
+        if self.before == 0 && self.own == 0 {
+            let others = part_of(self.behind, most);
+            self.behind -= others as usize;
+            return Run { others, own: 0 };
         }
-        let count = part_of(self.behind, most);
-        self.behind -= count as usize;
-        Run { own: false, count }
+        let others = part_of(self.before, most);
+        let own = part_of(self.own, most - others);
+        self.before -= others as usize;
+        self.own -= own as usize;
+        Run { others, own }
     }
 }

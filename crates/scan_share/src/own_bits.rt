@@ -4,7 +4,7 @@ ghost use Rattle.scan_bits.specs.Words.{bits_of};
 ghost use Rattle.scan_share.specs.Rows.{TakesOwn, own_count, chosen, woven};
 
 use crate::pieces::Piece;
-use crate::runs::ScanRuns;
+use crate::runs::{Run, ScanRuns};
 use scan_bits::Bits;
 use scan_walks::BitSink;
 
@@ -28,20 +28,42 @@ impl<'a, R: ScanRuns> OwnBits<'a, R> {
     }
 }
 
+// Bits of the group, and behind them those of a run of which `done` bits of a word are before.
+fn with_run(own: Piece, run: Run, word: u64, done: u32) -> Piece
+    requires few { done + run.others + run.own ≤ 64 }
+    requires done { own.count ≤ done }
+    requires bound { own.bits < 2 ^ own.count }
+    ensures count { result.count ≡ own.count + run.own }
+    ensures bits { bits_of result.count result.bits ≡ bits_of own.count own.bits ++ bits_of run.own (word / 2 ^ (done + run.others)) }
+    ensures bound { result.bits < 2 ^ result.count }
+{
+    if run.own == 0 {
+        return own;
+    }
+    own.joined(run.own, word >> (done + run.others))
+}
+
 // Takes the next `n` bits of a scan, which are the lowest ones of `word`. Says which of them are the group's.
 fn own_of<R: ScanRuns>(runs: &mut R, n: u32, word: u64) -> Piece
+    requires some { 1 ≤ n }
     requires few { n ≤ 64 }
+    requires bound { word < 2 ^ n }
     requires left { n ≤ length (R.marks runs.old) }
     ensures taken { TakesOwn n word result.count result.bits (R.marks runs.old) (R.marks runs.new) }
 {
-    let mut own = Piece { count: 0, bits: 0 };
-    let mut done = 0;
+    let first = runs.next(n);
+    if first.own == n {
+        return Piece {
+            count: n,
+            bits: word,
+        };
+    }
+    let mut own = with_run(Piece { count: 0, bits: 0 }, first, word, 0);
+    let mut done = first.others + first.own;
     while done < n {
         let run = runs.next(n - done);
-        if run.own {
-            own = own.joined(run.count, word >> done);
-        }
-        done += run.count;
+        own = with_run(own, run, word, done);
+        done += run.others + run.own;
     }
     own
 }

@@ -86,8 +86,12 @@ pub fn taken<P: Pieces>(pieces: &mut P, n: u32) -> u64
     ensures word { result ≡ number_of (take n (P.left pieces.old)) }
     ensures left { P.left pieces.new ≡ drop n (P.left pieces.old) }
 {
-    let mut word = 0;
-    let mut done = 0;
+    let first = pieces.next(n);
+    if first.count == n {
+        return first.bits;
+    }
+    let mut word = first.bits;
+    let mut done = first.count;
     while done < n {
         let piece = pieces.next(n - done);
         word |= piece.bits << done;

@@ -1,5 +1,5 @@
 // The bits of a scan of data registers, run by run.
-ghost use Rattle.std.specs.Prelude.{◌≡◌, ◌≤◌, ◌<◌, ◌+◌, ◌-◌, ◌++◌, Bool, List, Some, length, replicate, slice_get, true};
+ghost use Rattle.std.specs.Prelude.{◌≡◌, ◌≤◌, ◌<◌, ◌+◌, ◌-◌, ◌++◌, Bool, List, Some, length, replicate, slice_get, true, false};
 ghost use Rattle.std.specs.List.{slice_index_or};
 ghost use Rattle.scan_bits.specs.Registers.{joined};
 ghost use Rattle.scan_share.specs.Scans.{group_bits, scan_length, widths_during};
@@ -10,11 +10,11 @@ ghost use Rattle.scan_share.specs.Rows.{IsNext, IsRow, own_codes, scan_codes, ow
 use crate::scan::Scan;
 use std::marker::Model;
 
-/// Bits that follow one another in a scan of data registers: the group's own, or those of devices in BYPASS.
+/// Bits that follow one another in a scan of data registers: those of devices in BYPASS, and behind them some of the group's own.
 #[derive(Clone, Copy)]
 pub struct Run {
-    pub own: bool,
-    pub count: u32,
+    pub others: u32,
+    pub own: u32,
 }
 
 /// What is left of a scan of data registers, run by run, from the last device, which is nearest TDO, to the first.
@@ -27,18 +27,17 @@ pub trait ScanRuns {
     fn next(&mut self, most: u32) -> Run
         requires some { 1 ≤ most }
         requires left { 1 ≤ length (marks self.old) }
-        ensures left { replicate result.count result.own ++ marks self.new ≡ marks self.old }
-        ensures some { 1 ≤ result.count }
-        ensures few { result.count ≤ most };
+        ensures left { replicate result.others false ++ (replicate result.own true ++ marks self.new) ≡ marks self.old }
+        ensures some { 1 ≤ result.others + result.own }
+        ensures few { result.others + result.own ≤ most };
 }
 
 /// How far a scan came, from the last device to the first: so many devices are left, so many of the group's among them, and before those
-/// so many bits of a run, which is the group's own or not.
+/// so many bits of the group's own.
 #[derive(Clone, Copy)]
 pub struct Stand {
     pub place: usize,
     pub own: usize,
-    pub is_own: bool,
     pub bits: usize,
 }
 
@@ -57,7 +56,7 @@ impl<'a> Model for Runs<'a> {
 
     ghost Value = { List Bool };
 
-    ghost view = { λ r. marks_left r.group.now r.widths.now r.stand.place r.stand.bits r.stand.is_own };
+    ghost view = { λ r. marks_left r.group.now r.widths.now r.stand.place r.stand.bits };
 
     ghost invariant = { λ r. IsRow r.group.now r.widths.now r.stand.own r.stand.place };
 }
@@ -92,13 +91,12 @@ fn with_next(widths: &[u32], stand: Stand) -> Stand
     requires own { (1 ≤ stand.own) × (stand.own ≤ length widths.now) }
     requires place { 1 ≤ stand.place }
     requires few { stand.bits < 64 }
-    ensures { result ≡ record { place = stand.place - 1; own = stand.own - 1; is_own = true; bits = stand.bits + slice_index_or widths.now (stand.own - 1) 0 } }
+    ensures { result ≡ record { place = stand.place - 1; own = stand.own - 1; bits = stand.bits + slice_index_or widths.now (stand.own - 1) 0 } }
 {
     let own = stand.own - 1;
     Stand {
         place: stand.place - 1,
         own,
-        is_own: true,
         bits: stand.bits + widths[own] as usize,
     }
 }
@@ -109,7 +107,7 @@ fn own_run(group: &[usize], widths: &[u32], stand: Stand) -> Stand
     requires row { IsRow group.now widths.now stand.own stand.place }
     requires next { IsNext group.now stand.own stand.place }
     requires used { stand.bits ≡ 0 }
-    ensures same { marks_left group.now widths.now result.place result.bits result.is_own ≡ marks_left group.now widths.now stand.place stand.bits stand.is_own }
+    ensures same { marks_left group.now widths.now result.place result.bits ≡ marks_left group.now widths.now stand.place stand.bits }
     ensures row { IsRow group.now widths.now result.own result.place }
     ensures some { 1 ≤ result.bits }
 {
@@ -120,28 +118,34 @@ fn own_run(group: &[usize], widths: &[u32], stand: Stand) -> Stand
     run
 }
 
-// Where the run has a bit left: there itself, and else behind the next run, of devices of the group or of all devices before the next
-// one of it.
-fn entered(group: &[usize], widths: &[u32], stand: Stand) -> Stand
+// How many bits of other devices come next, at most `most` of them, and where they are past. Where they are fewer, the bits of the
+// group's own that follow are entered.
+fn entered(group: &[usize], widths: &[u32], stand: Stand, most: u32) -> (u32, Stand)
     requires row { IsRow group.now widths.now stand.own stand.place }
-    requires left { 1 ≤ length (marks_left group.now widths.now stand.place stand.bits stand.is_own) }
-    ensures same { marks_left group.now widths.now result.place result.bits result.is_own ≡ marks_left group.now widths.now stand.place stand.bits stand.is_own }
-    ensures row { IsRow group.now widths.now result.own result.place }
-    ensures some { 1 ≤ result.bits }
+    requires some { 1 ≤ most }
+    requires left { 1 ≤ length (marks_left group.now widths.now stand.place stand.bits) }
+    ensures same { replicate result.0 false ++ marks_left group.now widths.now result.1.place result.1.bits ≡ marks_left group.now widths.now stand.place stand.bits }
+    ensures row { IsRow group.now widths.now result.1.own result.1.place }
+    ensures few { result.0 ≤ most }
+    ensures some { 1 ≤ result.0 + result.1.bits }
 {
     if stand.bits > 0 {
-        return stand;
+        return (0, stand);
     }
     let end = end_of(group, stand.own);
-    if end < stand.place {
-        return Stand {
-            place: end,
-            own: stand.own,
-            is_own: false,
-            bits: stand.place - end,
-        };
+    let others = stand.place - end;
+    if others >= most as usize {
+        let place = stand.place - most as usize;
+        return (most, Stand { place, ..stand });
     }
-    own_run(group, widths, stand)
+    let stand = Stand {
+        place: end,
+        ..stand
+    };
+    if stand.own == 0 {
+        return (others as u32, stand);
+    }
+    (others as u32, own_run(group, widths, stand))
 }
 
 impl<'a> Runs<'a> {
@@ -160,7 +164,6 @@ impl<'a> Runs<'a> {
             stand: Stand {
                 place: scan.devices(),
                 own: group.len(),
-                is_own: false,
                 bits: 0,
             },
         }
@@ -171,15 +174,15 @@ impl<'a> ScanRuns for Runs<'a> {
     ghost marks = { λ r. r };
 
     fn next(&mut self, most: u32) -> Run {
-        let run = entered(self.group, self.widths, self.stand);
-        let count = run.bits.min(most as usize);
+        let (others, stand) = entered(self.group, self.widths, self.stand, most);
+        let own = stand.bits.min((most - others) as usize);
         self.stand = Stand {
-            bits: run.bits - count,
-            ..run
+            bits: stand.bits - own,
+            ..stand
         };
         Run {
-            own: run.is_own,
-            count: count as u32,
+            others,
+            own: own as u32,
         }
     }
 }

@@ -1,8 +1,6 @@
 // How many bits a scan of data registers has.
 ghost use Rattle.std.specs.Prelude.{◌≡◌, ◌≤◌, ◌<◌, ◌*◌, ◌^◌, length};
 ghost use Rattle.std.specs.List.{All, sum_by};
-ghost use Rattle.scan_bits.specs.Words.{bits_of};
-ghost use Rattle.part_model.specs.Parts as parts;
 ghost use Rattle.scan_share.specs.PrivateChains.{entries_at};
 ghost use Rattle.scan_share.specs.Scans.{codes_of, scan_length};
 ghost use Rattle.scan_share.specs.Codes.{AreCodes};
@@ -16,17 +14,9 @@ use crate::members::members;
 use crate::scan::Scan;
 use arrayvec::ArrayVec;
 use grant_table::Layout;
-use part_model::Part;
 
 /// How many bits registers of devices have, from TDI on.
 pub type Widths = ArrayVec<u32, 32>;
-
-// The length of the register that a code selects.
-fn width(part: &Part, code: u64) -> u32
-    ensures is { result ≡ parts.width part.now (bits_of part.now.ir_length code) }
-{
-    part.len_of(part.select(code))
-}
 
 /// Makes these widths how many bits the registers of a group's devices have under these codes.
 pub fn put_widths(layout: &Layout, group: &[usize], codes: &[u64], widths: &mut Widths)
@@ -37,7 +27,7 @@ pub fn put_widths(layout: &Layout, group: &[usize], codes: &[u64], widths: &mut 
 {
     widths.clear();
     for i in 0..group.len() {
-        widths.push(width(layout.part(group[i]), codes[i]));
+        widths.push(layout.part(group[i]).selected_length(codes[i]));
     }
 }
 
@@ -52,7 +42,7 @@ pub fn own_length(layout: &Layout, group: &[usize], codes: &[u64]) -> usize
 {
     let mut sum = 0;
     for i in 0..group.len() {
-        sum += width(layout.part(group[i]), codes[i]) as usize;
+        sum += layout.part(group[i]).selected_length(codes[i]) as usize;
     }
     sum
 }

@@ -38,17 +38,17 @@ impl<'a, R: ScanRuns> Pieces for WriteBits<'a, R> {
 
     fn next(&mut self, most: u32) -> Piece {
         let run = self.runs.next(most);
-        if run.own {
-            let bits = self.bits.word(self.at, run.count);
-            self.at = next_place(self.at, run.count, self.bits.len());
+        if run.own == 0 {
             return Piece {
-                count: run.count,
-                bits,
+                count: run.others,
+                bits: 0,
             };
         }
+        let own = self.bits.word(self.at, run.own);
+        self.at = next_place(self.at, run.own, self.bits.len());
         Piece {
-            count: run.count,
-            bits: 0,
+            count: run.others + run.own,
+            bits: own << run.others,
         }
     }
 }

@@ -5,7 +5,7 @@ ghost use Rattle.part_model.specs.Plans.{all_have_patterns};
 use base_types::{Items, Text};
 use chain_model::Board;
 use grant_table::{Grant, Layout, Net, Protocol, layout_fault};
-use part_model::{Access, Digit, Opcode, Part, PartPlan, Pattern, Patterns};
+use part_model::{Access, Digit, Names, Opcode, Part, PartPlan, Pattern, Patterns};
 use scan_bits::Bits;
 use std::alloc::{AllocError, Global};
 
@@ -79,7 +79,7 @@ pub fn listed_codes(instruction: u32) -> [u64; 6]
 }
 
 fn text(alloc: Global, name: &str) -> Result<Text, AllocError> {
-    Ok(Text::from_string(String::from_str(alloc, name)?))
+    Text::from_str(alloc, name)
 }
 
 // The lowest digits of a code.
@@ -138,13 +138,13 @@ fn access(
     first: &str,
     second: &str,
 ) -> Result<Access, AllocError> {
-    let mut instructions = Vec::new(alloc);
+    let mut instructions = Names::new(alloc);
     instructions.push(text(alloc, first)?)?;
     instructions.push(text(alloc, second)?)?;
     Ok(Access {
         register: text(alloc, register)?,
         length,
-        instructions: Items::from_vec(instructions),
+        instructions,
     })
 }
 

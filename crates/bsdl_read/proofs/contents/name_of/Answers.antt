@@ -1,5 +1,8 @@
-use Rattle.bsdl_read.proofs.Whole.{written_is_text}
+use Rattle.bsdl_read.proofs.Whole.{word_is_ascii, capitals_are_upper}
 use Rattle.bsdl_read.proofs.contents.name_of.Goals as goal
 
-pub unreachable-requires : goal.unreachable-requires
-unreachable-requires c = absurd (cc (c.in-Err.ensures.succeeds (written_is_text _ c.args.letters.now _ c.loop-letter.invariant.0 c.loop-letter-test.false c.requires)))
+pub capitals-requires : goal.capitals-requires
+capitals-requires c = word_is_ascii c.args.letters.now c.requires
+
+pub returns : goal.returns
+returns c = rw (← capitals_are_upper c.args.letters.now) c.capitals.ensures.ok

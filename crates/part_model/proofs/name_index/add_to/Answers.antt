@@ -1,7 +1,7 @@
-use Rattle.std.proofs.Common.{arith, ap, true, ◌≡◌, ◌∙◌}
+use Rattle.std.proofs.Common.{arith, true, ◌≡◌, ◌∙◌}
 use Rattle.std.specs.BTreeMap.Entry.{entry_value, map_with_value}
 use Rattle.std.specs.declared.option.Option.TheVariants.{Some}
-use Rattle.part_model.specs.NameIndexes.{hash_from, value_among}
+use Rattle.part_model.specs.NameIndexes.{value_among}
 use Rattle.part_model.specs.Parts.{same_name}
 use Rattle.part_model.proofs.NameIndexLaws.{one_changed, own_value}
 use Rattle.part_model.proofs.name_index.add_to.Goals as goal

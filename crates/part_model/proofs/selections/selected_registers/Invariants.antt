@@ -5,5 +5,5 @@ use Rattle.part_model.specs.Plans.{register_for}
 use Rattle.part_model.proofs.selections.selected_registers.Given as goal
 
 abbrev pub invariant-loop-opcode : goal.invariant-loop-opcode
-invariant-loop-opcode l = (map numbered l.found.items ++ map (λ opcode. register_for l.accesses opcode.name) (drop l.opcode-index l.opcodes) ≡ map (λ opcode. register_for l.accesses opcode.name) l.opcodes)
-    × (list_all (λ register. nat_lt register (4 + length l.named)) l.found.items ≡ true)
+invariant-loop-opcode l = (map numbered l.found.items ++ map (λ opcode. register_for l.plan.access opcode.name) (drop l.opcode-index l.plan.opcodes) ≡ map (λ opcode. register_for l.plan.access opcode.name) l.plan.opcodes)
+    × (list_all (λ register. nat_lt register (4 + length l.index.known.registers.items)) l.found.items ≡ true)

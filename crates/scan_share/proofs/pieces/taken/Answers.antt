@@ -28,3 +28,13 @@ returns-clause-word g c =
 pub returns-clause-left : goal.returns-clause-left
 returns-clause-left g c =
     taken_left c.loop-done.word c.loop-done.done c.args.n (g.P.Pieces.left c.loop-done.pieces) (g.P.Pieces.left c.args.pieces.now) (omega (arith, c.loop-done-test.false, c.loop-done.invariant.within)) c.loop-done.invariant.taken
+
+pub returns-then-first-n-clause-word : goal.returns-then-first-n-clause-word
+returns-then-first-n-clause-word g c =
+    taken_word c.next-first.result.bits c.next-first.result.count c.args.n (g.P.Pieces.left c.next-first.new.self) (g.P.Pieces.left c.args.pieces.now) (omega (arith, c.if-first-n.true))
+    (record { small = c.next-first.ensures.bound; is = c.next-first.ensures.left })
+
+pub returns-then-first-n-clause-left : goal.returns-then-first-n-clause-left
+returns-then-first-n-clause-left g c =
+    taken_left c.next-first.result.bits c.next-first.result.count c.args.n (g.P.Pieces.left c.next-first.new.self) (g.P.Pieces.left c.args.pieces.now) (omega (arith, c.if-first-n.true))
+    (record { small = c.next-first.ensures.bound; is = c.next-first.ensures.left })

@@ -6,9 +6,9 @@ use Rattle.scan_share.proofs.scan_length.own_length.Goals as goal
 
 pub loop-i-preserved : goal.loop-i-preserved
 loop-i-preserved c = record {
-  whole = more_summed (widths_during (entries_at c.args.layout.now.parts c.args.group.now) (codes_of (entries_at c.args.layout.now.parts c.args.group.now) c.args.codes.now)) c.loop-i.sum c.loop-i.i c.width.result c.loop-i.invariant.whole
+  whole = more_summed (widths_during (entries_at c.args.layout.now.parts c.args.group.now) (codes_of (entries_at c.args.layout.now.parts c.args.group.now) c.args.codes.now)) c.loop-i.sum c.loop-i.i c.selected_length.result c.loop-i.invariant.whole
       (group_width c.args.layout.now.parts c.args.group.now c.args.codes.now c.loop-i.i _ _ _ _ c.part.result.now c.requires.within c.requires.coded c.loop-i-test.true refl refl c.part.ensures.is
-      ∙ ap Some (sym c.width.ensures.is));
+      ∙ ap Some (sym c.selected_length.ensures));
   bound = omega arith;
 }
 

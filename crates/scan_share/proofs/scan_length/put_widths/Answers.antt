@@ -7,9 +7,9 @@ use Rattle.scan_share.proofs.scan_length.put_widths.Goals as goal
 pub loop-i-preserved : goal.loop-i-preserved
 loop-i-preserved c =
     rw c.push.ensures.items (more_begun c.loop-i.widths.items (widths_during (entries_at c.args.layout.now.parts c.args.group.now) (codes_of (entries_at c.args.layout.now.parts c.args.group.now) c.args.codes.now)) c.loop-i.i
-    c.width.result c.loop-i.invariant
+    c.selected_length.result c.loop-i.invariant
     (group_width c.args.layout.now.parts c.args.group.now c.args.codes.now c.loop-i.i _ _ _ _ c.part.result.now c.requires.within c.requires.coded c.loop-i-test.true refl refl c.part.ensures.is
-    ∙ ap Some (sym c.width.ensures.is)))
+    ∙ ap Some (sym c.selected_length.ensures)))
 
 pub returns : goal.returns
 returns c =

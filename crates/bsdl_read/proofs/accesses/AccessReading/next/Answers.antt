@@ -1,13 +1,11 @@
 use Rattle.bsdl_read.specs.Accesses.{view}
-use Rattle.bsdl_read.proofs.AccessWords.{register_is_read, name_is_read}
+use Rattle.bsdl_read.proofs.AccessFronts.{register_opens, name_ends}
 use Rattle.bsdl_read.proofs.accesses.AccessReading.next.Goals as goal
 
 pub returns-in-Some-clause-goes : goal.returns-in-Some-clause-goes
 returns-in-Some-clause-goes c =
-    register_is_read (view c.args.self.now) (view c.register_word.new.self) c.args.bytes.now c.in-Some.front.word.now c.in-Some.front.behind.now
-    (c.awaits_register.ensures.stage c.if-awaits_register.true) (c.awaits_register.ensures.none c.if-awaits_register.true) c.in_ok-register_word.ensures c.in-Some.ensures.is c.in-Some.ensures.name
+    register_opens (view c.args.self.now) (view c.opened.new.self) c.args.bytes.now _ _ _ (c.is_between.ensures c.if-is_between.true) c.in_ok-opened.ensures c.in-Some.ensures.is
 
-pub returns-in-Some-front_word-clause-goes : goal.returns-in-Some-front_word-clause-goes
-returns-in-Some-front_word-clause-goes c =
-    name_is_read (view c.args.self.now) (view c.name_word.new.self) c.args.bytes.now c.in-Some-front_word.front.word.now c.in-Some-front_word.front.behind.now
-    (c.awaits_name.ensures.stage c.if-awaits_name.true) (c.awaits_name.ensures.none c.if-awaits_name.true) c.in_ok-name_word.ensures c.in-Some-front_word.ensures.is c.in-Some-front_word.ensures.name
+pub returns-in-Some-front_name-clause-goes : goal.returns-in-Some-front_name-clause-goes
+returns-in-Some-front_name-clause-goes c =
+    name_ends (view c.args.self.now) (view c.named.new.self) c.args.bytes.now _ _ _ (c.awaits_name.ensures c.if-awaits_name.true) c.in_ok-named.ensures c.in-Some-front_name.ensures.is
