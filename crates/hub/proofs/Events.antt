@@ -336,6 +336,31 @@ gone_event setting old grant before now i live is = record {
     or_true true = refl
     or_true false = refl
 
+-- bytes are taken from an open session that does not wait
+pub took_now : (setting : Setting) (old : HubView) (gone : List Bool) (grant : ℕ) (bytes : List ℕ) (chain : ChainState) (before now : WireView) → AreWhole old gone → grant < length old.seats → stand_at old grant ≡ stand.Going
+    → now ≡ after_take (conn_at old grant) (Answer.Bytes bytes) before → StandsBut setting [] old chain before → SeatEvent setting old grant (received bytes (seat_at (played setting before.steps) grant)) before now
+took_now setting old gone grant bytes chain before now whole there going took s = took_event setting old grant bytes before now (played_isolated setting before.steps s.once) live here took
+  where
+    shown : SeatShown (view_at old grant) (is_waiting (played setting before.steps) grant) (seat_at (played setting before.steps) grant) (s.given grant)
+    shown = s.table.seats grant (subst (λ layout. grant < length layout.grants) s.table.layout (subst (λ n. grant < n) whole.seats there))
+
+    live : is_live (conn_at old grant) (seat_at (played setting before.steps) grant) ≡ true
+    live = live_at setting old grant (s.given grant) (played setting before.steps) shown (ap is_taken going)
+
+    here : (seat_at (played setting before.steps) grant).gone ≡ false
+    here = shown.shows.here (going_waits (is_waiting (played setting before.steps) grant) (seat_at (played setting before.steps) grant) (sym shown.shows.stand ∙ going))
+
+-- the peer of an open session is found to be gone
+pub gone_now : (setting : Setting) (old : HubView) (gone : List Bool) (grant : ℕ) (chain : ChainState) (before now : WireView) → AreWhole old gone → grant < length old.seats → is_here (stand_at old grant) ≡ true
+    → IsGoneNow (conn_at old grant) before now → StandsBut setting [] old chain before → SeatEvent setting old grant (record (seat_at (played setting before.steps) grant) { gone = true }) before now
+gone_now setting old gone grant chain before now whole there here lost s = gone_event setting old grant before now (played_isolated setting before.steps s.once) live lost
+  where
+    shown : SeatShown (view_at old grant) (is_waiting (played setting before.steps) grant) (seat_at (played setting before.steps) grant) (s.given grant)
+    shown = s.table.seats grant (subst (λ layout. grant < length layout.grants) s.table.layout (subst (λ n. grant < n) whole.seats there))
+
+    live : is_live (conn_at old grant) (seat_at (played setting before.steps) grant) ≡ true
+    live = live_at setting old grant (s.given grant) (played setting before.steps) shown (here_open old grant here)
+
 -- what a call of the table that took bytes comes to
 pub took_left : (setting : Setting) (old new : HubView) (gone : List Bool) (grant : ℕ) (bytes : List ℕ) (old_chain new_chain : Option ChainState) (before now : Option WireView)
     → AreWhole old gone → AreFlagged old gone → grant < length old.seats → stand_at old grant ≡ stand.Going → KeepsTable old new → WentOn grant false old new
@@ -347,20 +372,8 @@ took_left setting old new gone grant bytes (Some chain) new_chain None now whole
 took_left setting old new gone grant bytes (Some chain) new_chain (Some before) None whole flagged there going kept went follows conns wire took s = absurd took
 took_left setting old new gone grant bytes (Some chain) new_chain (Some before) (Some now) whole flagged there going kept went follows conns wire took s =
     subst (λ ends. StandsOnBut setting ends new new_chain (Some now)) (sym (ends_are grant false old new went))
-    (followed setting old new gone grant false (received bytes (seat_at (played setting before.steps) grant)) chain before now there kept went whole open_now (λ other n taken. flagged other taken) conns s
-    (took_event setting old grant bytes before now (played_isolated setting before.steps s.once) live here took) new_chain (follows setting s.given (played setting before.steps) s.table) wire)
-  where
-    open_now : is_taken (stand_at old grant) ≡ true
-    open_now = ap is_taken going
-
-    shown : SeatShown (view_at old grant) (is_waiting (played setting before.steps) grant) (seat_at (played setting before.steps) grant) (s.given grant)
-    shown = s.table.seats grant (subst (λ layout. grant < length layout.grants) s.table.layout (subst (λ n. grant < n) whole.seats there))
-
-    live : is_live (conn_at old grant) (seat_at (played setting before.steps) grant) ≡ true
-    live = live_at setting old grant (s.given grant) (played setting before.steps) shown open_now
-
-    here : (seat_at (played setting before.steps) grant).gone ≡ false
-    here = shown.shows.here (going_waits (is_waiting (played setting before.steps) grant) (seat_at (played setting before.steps) grant) (sym shown.shows.stand ∙ going))
+    (followed setting old new gone grant false (received bytes (seat_at (played setting before.steps) grant)) chain before now there kept went whole (ap is_taken going) (λ other n taken. flagged other taken) conns s
+    (took_now setting old gone grant bytes chain before now whole there going took s) new_chain (follows setting s.given (played setting before.steps) s.table) wire)
 
 -- what a call of the table comes to that was told of a drop
 pub gone_left : (setting : Setting) (old new : HubView) (gone : List Bool) (grant : ℕ) (old_chain new_chain : Option ChainState) (before now : Option WireView)
@@ -374,17 +387,8 @@ gone_left setting old new gone grant (Some chain) new_chain None now whole flagg
 gone_left setting old new gone grant (Some chain) new_chain (Some before) None whole flagged there here kept went follows conns wire lost s = absurd lost
 gone_left setting old new gone grant (Some chain) new_chain (Some before) (Some now) whole flagged there here kept went follows conns wire lost s =
     subst (λ ends. StandsOnBut setting ends new new_chain (Some now)) (sym (ends_are grant true old new went))
-    (followed setting old new gone grant true (record (seat_at (played setting before.steps) grant) { gone = true }) chain before now there kept went whole open_now flagged conns s
-    (gone_event setting old grant before now (played_isolated setting before.steps s.once) live lost) new_chain (follows setting s.given (played setting before.steps) s.table) wire)
-  where
-    open_now : is_taken (stand_at old grant) ≡ true
-    open_now = here_open old grant here
-
-    shown : SeatShown (view_at old grant) (is_waiting (played setting before.steps) grant) (seat_at (played setting before.steps) grant) (s.given grant)
-    shown = s.table.seats grant (subst (λ layout. grant < length layout.grants) s.table.layout (subst (λ n. grant < n) whole.seats there))
-
-    live : is_live (conn_at old grant) (seat_at (played setting before.steps) grant) ≡ true
-    live = live_at setting old grant (s.given grant) (played setting before.steps) shown open_now
+    (followed setting old new gone grant true (record (seat_at (played setting before.steps) grant) { gone = true }) chain before now there kept went whole (here_open old grant here) flagged conns s
+    (gone_now setting old gone grant chain before now whole there here lost s) new_chain (follows setting s.given (played setting before.steps) s.table) wire)
 
 -- ---- from where the list of the ended began to where it was settled
 

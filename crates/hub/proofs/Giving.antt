@@ -342,7 +342,7 @@ none_keeps chain table now ready gone grant conn piece a b is whole calm piece_i
 
 -- ---- the peer is gone
 
-lost_one : (conn whole : ℕ) (before : WireView) → IsGoneNow conn before (after_give conn whole Answer.Gone before)
+pub lost_one : (conn whole : ℕ) (before : WireView) → IsGoneNow conn before (after_give conn whole Answer.Gone before)
 lost_one conn whole before = record { steps = refl; given = same; last = λ other. refl }
   where
     same : (other : ℕ) → c.with_given conn [] before.given other ≡ before.given other

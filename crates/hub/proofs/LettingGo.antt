@@ -415,11 +415,17 @@ module _ (setting : Setting) (left : List SessionEnd) (hub : HubView) (gone : Li
   drop_stands : is_drop ended.end ≡ true → StandsBut setting left hub chain old
   drop_stands is = lets_stand old s.once (lets_same setting ended.conn old) (past_gone old last (s.given ended.grant) (reply_at hub ended.grant) (s.left_is.0.drop is) peer replies)
 
+  -- its connection is shut, after one give at most
+  lets_last : (new : WireView) → LastGaveShut ended.conn (reply_at hub ended.grant) old new → LetsGo setting ended.conn old new
+  lets_last new gave = subst (LetsGo setting ended.conn old) (sym gave.shut) (lets_then setting ended.conn old gave.between (after_shut ended.conn gave.between)
+      (lets_gave setting ended.conn (reply_at hub ended.grant) old gave.between (none_live setting old.steps ended.grant ended.conn s.once free among) not_shut gave.gave) (lets_shut setting ended.conn gave.between))
+
+  pub shut_play : (new : WireView) → LastGaveShut ended.conn (reply_at hub ended.grant) old new → played setting new.steps ≡ played setting old.steps
+  shut_play new gave = (lets_last new gave).play
+
   -- a session whose connection is shut
   shut_stands : (new : WireView) → opens_once new.steps ≡ true → LastGaveShut ended.conn (reply_at hub ended.grant) old new → StandsBut setting left hub chain new
-  shut_stands new once gave = lets_stand new once (subst (LetsGo setting ended.conn old) (sym gave.shut) (lets_then setting ended.conn old gave.between (after_shut ended.conn gave.between)
-      (lets_gave setting ended.conn (reply_at hub ended.grant) old gave.between (none_live setting old.steps ended.grant ended.conn s.once free among) not_shut gave.gave) (lets_shut setting ended.conn gave.between)))
-      (past_shut old new last (s.given ended.grant) (reply_at hub ended.grant) peer replies gave)
+  shut_stands new once gave = lets_stand new once (lets_last new gave) (past_shut old new last (s.given ended.grant) (reply_at hub ended.grant) peer replies gave)
 
 -- ---- where the cable and the wire may tell nothing
 
@@ -476,7 +482,7 @@ let_more chain setting first now next flags gone gone_now at ended b d same gone
 
 -- ---- and then quieted
 
-untold : {A : Type 0} (setting : Setting) (left : List SessionEnd) (hub : HubView) (chain : Option ChainState) → StandsOnBut setting left hub chain None → A
+pub untold : {A : Type 0} (setting : Setting) (left : List SessionEnd) (hub : HubView) (chain : Option ChainState) → StandsOnBut setting left hub chain None → A
 untold setting left hub None s = absurd s
 untold setting left hub (Some chain) s = absurd s
 

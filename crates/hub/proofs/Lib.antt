@@ -13,3 +13,4 @@ pub mod Standing
 pub mod Giving
 pub mod Openings
 pub mod Events
+pub mod Ends

@@ -185,10 +185,12 @@ module _ (setting : Setting) (hub : HubView) (gone : List Bool) (chain : ChainSt
       ∙ ap (λ layout. after_change setting play (change_by_opening (grant_of layout port) conn play)) (sym s.table.layout)
       ∙ change_none (grant_of hub.layout port) (granted_below hub.layout port) none
 
+  pub away_play : admitted_at hub port ≡ None → (now : WireView) → now ≡ after_shut conn (after_poll (Ok (found.Opened conn port)) before) → played setting now.steps ≡ played setting before.steps
+  away_play none now is = ap (λ wire. played setting wire.steps) is ∙ played-snoc setting (before.steps ++ Opened conn port ∷ []) (Shut conn) ∙ played_away none
+
   pub away_stands : admitted_at hub port ≡ None → (now : WireView) → now ≡ after_shut conn (after_poll (Ok (found.Opened conn port)) before) → opens_once now.steps ≡ true → StandsBut setting [] hub chain now
   away_stands none now is once_now =
-      turned_to now (subst (Beside conn before) (sym is) (shut_beside conn before (after_poll (Ok (found.Opened conn port)) before) (found_beside conn port before))) once_now
-      (ap (λ wire. played setting wire.steps) is ∙ played-snoc setting (before.steps ++ Opened conn port ∷ []) (Shut conn) ∙ played_away none)
+      turned_to now (subst (Beside conn before) (sym is) (shut_beside conn before (after_poll (Ok (found.Opened conn port)) before) (found_beside conn port before))) once_now (away_play none now is)
 
   -- ---- it is admitted
 
@@ -262,6 +264,9 @@ module _ (setting : Setting) (hub : HubView) (gone : List Bool) (chain : ChainSt
       play_now : played setting now.steps ≡ next
       play_now = ap (λ wire. played setting wire.steps) is ∙ played_next
 
+      pub begun_ends : (played setting now.steps).ends ≡ (played setting before.steps).ends
+      begun_ends = ap (λ play. play.ends) play_now
+
       pub begun_stands : StandsBut setting [] new chain now
       begun_stands = record {
         once = ap (λ wire. opens_once wire.steps) is ∙ once;
@@ -277,7 +282,7 @@ module _ (setting : Setting) (hub : HubView) (gone : List Bool) (chain : ChainSt
 -- ---- what is told
 
 -- the table after a session began
-begun_by : {C : Type 0} (table now : TableView C) (grant conn : ℕ) → (view_at now.hub grant).conn ≡ conn
+pub begun_by : {C : Type 0} (table now : TableView C) (grant conn : ℕ) → (view_at now.hub grant).conn ≡ conn
     → now ≡ record table { hub = record table.hub { seats = slice_set table.hub.seats grant (view_at now.hub grant); ready = slice_set table.hub.ready grant true } } → HasBegun grant conn table.hub now.hub
 begun_by table now grant conn conn_is kept = record {
   conn_is = conn_is;
@@ -329,7 +334,7 @@ away_follows hub gone (Some chain) conn port (Some old) (Some now) whole none fi
 
 -- ---- a poll that opened nothing, and what follows
 
-polled_on : (setting : Setting) (hub : HubView) (chain : Option ChainState) (find : Found) (a b : Option WireView) → opens_none find ≡ true → FoundNow find a b → StandsOnBut setting [] hub chain a → StandsOnBut setting [] hub chain b
+pub polled_on : (setting : Setting) (hub : HubView) (chain : Option ChainState) (find : Found) (a b : Option WireView) → opens_none find ≡ true → FoundNow find a b → StandsOnBut setting [] hub chain a → StandsOnBut setting [] hub chain b
 polled_on setting hub None find a b none event s = s
 polled_on setting hub (Some chain) find None b none event s = absurd s
 polled_on setting hub (Some chain) find (Some before) None none event s = absurd event

@@ -128,6 +128,22 @@ abbrev pub FoundNow : Found → Option WireView → Option WireView → Type 0
 FoundNow found (Some before) (Some now) = now ≡ after_poll (Ok found) before
 FoundNow found _ _ = ⊥
 
+-- ---- the sessions that ended
+
+-- in the play of the steps, these ended, and then those that the hub's list has
+abbrev pub EndsSince : Setting → List SessionEnd → HubView → Option WireView → Type 0
+EndsSince setting earlier hub None = ⊥
+EndsSince setting earlier hub (Some wire) = (played setting wire.steps).ends ≡ earlier ++ hub.ended
+
+-- where the list was so before, it is so after
+abbrev pub KeepsEnds : (old new : HubView) (old_chain : Option ChainState) (old_wire new_wire : Option WireView) → Type 0
+KeepsEnds old new old_chain old_wire new_wire = (setting : Setting) (earlier : List SessionEnd) → StandsOnBut setting [] old old_chain old_wire → EndsSince setting earlier old old_wire → EndsSince setting earlier new new_wire
+
+-- the play of the steps after has these ends beyond those of the play of the steps before
+abbrev pub EndsFollow : Setting → Option WireView → Option WireView → List SessionEnd → Type 0
+EndsFollow setting (Some before) (Some now) ended = (played setting now.steps).ends ≡ (played setting before.steps).ends ++ ended
+EndsFollow setting _ _ ended = ⊥
+
 -- this is no connection that opened
 abbrev pub opens_none : Found → Bool
 opens_none (found.Opened conn port) = false

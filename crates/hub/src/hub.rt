@@ -11,10 +11,10 @@ ghost use Rattle.client_session.specs.Sessions.{is_taken};
 ghost use Rattle.wire_port.specs.Calls.{is_end, IsWire};
 ghost use Rattle.plays.specs.Plays.{Setting, start};
 ghost use Rattle.plays.specs.Outcomes.{SeatsOpen};
-ghost use Rattle.session_table.specs.Shown.{FreshOn, session_end};
+ghost use Rattle.session_table.specs.Shown.{EachFew, FreshOn, session_end};
 ghost use Rattle.session_table.specs.Tables.{StandsOn, stand_at, reply_at, view_at};
 ghost use Rattle.wire_port.specs.Wires.{WireView};
-ghost use Rattle.hub.specs.Standing.{HubStands, FoundNow};
+ghost use Rattle.hub.specs.Standing.{EndsFollow, HubStands, FoundNow};
 ghost use Rattle.hub.specs.Served.{KeepsMade, OnlyOpened, OpensIn, ShutsAfter, ShutsFor};
 
 use crate::HubFault;
@@ -117,6 +117,7 @@ impl<C: Cable> Hub<C> {
         ensures shuts { OnOk result (Both (W.told wire.old) (W.told wire.new) (ShutsAfter found self.old.hub self.new.hub.ended)) }
         ensures known { OnOk result (Both (W.told wire.old) (W.told wire.new) OnlyOpened) }
         ensures stands { OnOk result ((setting : Setting) (before : Option WireView) → FoundNow found before (W.told wire.old) → HubStands setting self.old.hub (C.chain self.old.cable) before → HubStands setting self.new.hub (C.chain self.new.cable) (W.told wire.new)) }
+        ensures ends { OnOk result ((setting : Setting) (before : Option WireView) → FoundNow found before (W.told wire.old) → HubStands setting self.old.hub (C.chain self.old.cable) before → EndsFollow setting before (W.told wire.new) self.new.hub.ended) }
         ensures door { W.door wire.new ≡ W.door wire.old }
         ensures faults { W.fault_count wire.new ≡ W.fault_count wire.old }
         ensures mark { C.mark self.new.cable ≡ C.mark self.old.cable }
@@ -139,6 +140,7 @@ impl<C: Cable> Hub<C> {
         ensures shuts { OnOk result (Both (W.told wire.old) (W.told wire.new) (ShutsFor [] self.new.hub.ended)) }
         ensures known { OnOk result (Both (W.told wire.old) (W.told wire.new) OnlyOpened) }
         ensures stands { OnOk result ((setting : Setting) → HubStands setting self.old.hub (C.chain self.old.cable) (W.told wire.old) → HubStands setting self.new.hub (C.chain self.new.cable) (W.told wire.new)) }
+        ensures ends { OnOk result ((setting : Setting) → HubStands setting self.old.hub (C.chain self.old.cable) (W.told wire.old) → EndsFollow setting (W.told wire.old) (W.told wire.new) self.new.hub.ended) }
         ensures door { W.door wire.new ≡ W.door wire.old }
         ensures faults { W.fault_count wire.new ≡ W.fault_count wire.old }
         ensures mark { C.mark self.new.cable ≡ C.mark self.old.cable }
@@ -171,7 +173,8 @@ impl<C: Cable> Hub<C> {
 
     /// The sessions that ended in the last `turn` or `rest`, in order.
     pub fn ended(&self) -> &[Ended]
-        ensures { map session_end result.now ≡ self.now.hub.ended }
+        ensures are { map session_end result.now ≡ self.now.hub.ended }
+        ensures few { self.now.hub.broken ≡ false → EachFew result.now }
     {
         self.sessions.table.ended()
     }

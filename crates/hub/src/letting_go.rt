@@ -6,7 +6,7 @@ ghost use Rattle.plays.specs.Schedule.{is_drop, with_ready};
 ghost use Rattle.session_table.specs.Shown.{session_end};
 ghost use Rattle.session_table.specs.Tables.{reply_at, view_at};
 ghost use Rattle.wire_port.specs.Calls.{IsOpen, CanBeShut};
-ghost use Rattle.hub.specs.Standing.{LastGave, LastGaveShut, StandsOnBut};
+ghost use Rattle.hub.specs.Standing.{LastGave, LastGaveShut, StandsOnBut, EndsFollow};
 ghost use Rattle.wire_port.specs.Wires.{WireView};
 ghost use Rattle.plays.specs.Plays.{Setting, SessionEnd};
 ghost use Rattle.hub.specs.Served.{HasShut, ShutsFor, AreWhole, AreFlagged, AreLeft, ConnIsOpen, ConnsAreOpen, OnlyOf, OnlyOpened, grants_of, is_gone, quieted, ready_as, settled, with_seats};
@@ -120,6 +120,8 @@ impl<C: Cable> Sessions<C> {
         ensures known { Both (W.told wire.old) (W.told wire.new) OnlyOpened }
         ensures stands { (setting : Setting) (left : List SessionEnd) → AreLeft self.old.table.hub (session_end ended ∷ left) → Told (W.told wire.old) (ConnsAreOpen self.old.table.hub self.old.gone.items (session_end ended ∷ left))
             → StandsOnBut setting (session_end ended ∷ left) self.old.table.hub (C.chain self.old.table.cable) (W.told wire.old) → StandsOnBut setting left self.new.table.hub (C.chain self.new.table.cable) (W.told wire.new) }
+        ensures ends { (setting : Setting) (left : List SessionEnd) → AreLeft self.old.table.hub (session_end ended ∷ left) → Told (W.told wire.old) (ConnsAreOpen self.old.table.hub self.old.gone.items (session_end ended ∷ left))
+            → StandsOnBut setting (session_end ended ∷ left) self.old.table.hub (C.chain self.old.table.cable) (W.told wire.old) → EndsFollow setting (W.told wire.old) (W.told wire.new) [] }
     {
         self.table.set_ready(ended.grant, false);
         if !is_drop(ended.end) {
@@ -141,6 +143,7 @@ impl<C: Cable> Sessions<C> {
         ensures shuts { Both (W.told wire.old) (W.told wire.new) (ShutsFor [] (drop earlier self.old.table.hub.ended)) }
         ensures known { Both (W.told wire.old) (W.told wire.new) OnlyOpened }
         ensures stands { (setting : Setting) → StandsOnBut setting (drop earlier self.old.table.hub.ended) self.old.table.hub (C.chain self.old.table.cable) (W.told wire.old) → StandsOnBut setting [] self.new.table.hub (C.chain self.new.table.cable) (W.told wire.new) }
+        ensures ends { (setting : Setting) → StandsOnBut setting (drop earlier self.old.table.hub.ended) self.old.table.hub (C.chain self.old.table.cable) (W.told wire.old) → EndsFollow setting (W.told wire.old) (W.told wire.new) [] }
     {
         for at in earlier..self.ended_count() {
             let ended = self.ended_at(at);
@@ -162,6 +165,7 @@ impl<C: Cable> Sessions<C> {
         ensures shuts { Both (W.told wire.old) (W.told wire.new) (ShutsFor [] (drop earlier self.old.table.hub.ended)) }
         ensures known { Both (W.told wire.old) (W.told wire.new) OnlyOpened }
         ensures stands { (setting : Setting) → AreFlagged self.old.table.hub self.old.gone.items → StandsOnBut setting (drop earlier self.old.table.hub.ended) self.old.table.hub (C.chain self.old.table.cable) (W.told wire.old) → StandsOnBut setting [] self.new.table.hub (C.chain self.new.table.cable) (W.told wire.new) }
+        ensures ends { (setting : Setting) → StandsOnBut setting (drop earlier self.old.table.hub.ended) self.old.table.hub (C.chain self.old.table.cable) (W.told wire.old) → EndsFollow setting (W.told wire.old) (W.told wire.new) [] }
     {
         self.let_all_go(wire, earlier);
         self.quiet();

@@ -14,7 +14,7 @@ ghost use Rattle.session_table.specs.Tables.{stand_at, reply_at, view_at};
 ghost use Rattle.wire_port.specs.declared.wire.Found.TheVariants.{Opened};
 ghost use Rattle.wire_port.specs.Calls.{IsOpen, CanBeShut};
 ghost use Rattle.grant_table.specs.Layouts.{first_place};
-ghost use Rattle.hub.specs.Standing.{KeepsPlay, FollowsEvent, TookNow, GoneNow, FoundNow, StandsOnBut};
+ghost use Rattle.hub.specs.Standing.{KeepsPlay, FollowsEvent, TookNow, GoneNow, FoundNow, StandsOnBut, KeepsEnds};
 ghost use Rattle.wire_port.specs.Wires.{WireView};
 ghost use Rattle.wire_port.specs.Offers.{Answer};
 ghost use Rattle.wire_port.specs.Calls.{after_give};
@@ -51,6 +51,7 @@ impl<C: Cable> Sessions<C> {
         ensures shuts { OnOk result (Both (W.told wire.old) (W.told wire.new) (ShutsFor self.old.table.hub.ended self.new.table.hub.ended)) }
         ensures known { OnOk result (Both (W.told wire.old) (W.told wire.new) OnlyOpened) }
         ensures stands { OnOk result (FollowsEvent (GoneNow (conn_at self.old.table.hub grant)) self.old.table.hub self.new.table.hub (C.chain self.old.table.cable) (C.chain self.new.table.cable) (W.told wire.old) (W.told wire.new)) }
+        ensures ends { OnOk result ((before : Option WireView) → GoneNow (conn_at self.old.table.hub grant) before (W.told wire.old) → KeepsEnds self.old.table.hub self.new.table.hub (C.chain self.old.table.cable) before (W.told wire.new)) }
     {
         let earlier = self.ended_count();
         self.table.peer_gone(grant)?;
@@ -82,6 +83,7 @@ impl<C: Cable> Sessions<C> {
         ensures shuts { OnOk result (Both (W.told wire.old) (W.told wire.new) (ShutsFor self.old.table.hub.ended self.new.table.hub.ended)) }
         ensures known { OnOk result (Both (W.told wire.old) (W.told wire.new) OnlyOpened) }
         ensures stands { OnOk result (FollowsEvent (TookNow (conn_at self.old.table.hub grant) piece.now) self.old.table.hub self.new.table.hub (C.chain self.old.table.cable) (C.chain self.new.table.cable) (W.told wire.old) (W.told wire.new)) }
+        ensures ends { OnOk result ((before : Option WireView) → TookNow (conn_at self.old.table.hub grant) piece.now before (W.told wire.old) → KeepsEnds self.old.table.hub self.new.table.hub (C.chain self.old.table.cable) before (W.told wire.new)) }
     {
         let earlier = self.ended_count();
         self.table.took(grant, piece)?;
@@ -111,6 +113,7 @@ impl<C: Cable> Sessions<C> {
         ensures shuts { OnOk result (Both (W.told wire.old) (W.told wire.new) (ShutsFor self.old.table.hub.ended self.new.table.hub.ended)) }
         ensures known { OnOk result (Both (W.told wire.old) (W.told wire.new) OnlyOpened) }
         ensures stands { OnOk result (FollowsEvent (GoneNow (conn_at self.old.table.hub grant)) self.old.table.hub self.new.table.hub (C.chain self.old.table.cable) (C.chain self.new.table.cable) (W.told wire.old) (W.told wire.new)) }
+        ensures ends { OnOk result ((before : Option WireView) → GoneNow (conn_at self.old.table.hub grant) before (W.told wire.old) → KeepsEnds self.old.table.hub self.new.table.hub (C.chain self.old.table.cable) before (W.told wire.new)) }
     {
         self.gone[grant] = true;
         self.peer_gone(wire, grant)
@@ -165,6 +168,7 @@ impl<C: Cable> Sessions<C> {
         ensures shuts { OnOk result (Both (W.told wire.old) (W.told wire.new) (ShutsFor self.old.table.hub.ended self.new.table.hub.ended)) }
         ensures known { OnOk result (Both (W.told wire.old) (W.told wire.new) OnlyOpened) }
         ensures stands { OnOk result (KeepsPlay self.old.table.hub self.new.table.hub (C.chain self.old.table.cable) (C.chain self.new.table.cable) (W.told wire.old) (W.told wire.new)) }
+        ensures ends { OnOk result (KeepsEnds self.old.table.hub self.new.table.hub (C.chain self.old.table.cable) (W.told wire.old) (W.told wire.new)) }
     {
         if self.table.next() == Some(grant) {
             self.table.set_ready(grant, false);
@@ -206,6 +210,7 @@ impl<C: Cable> Sessions<C> {
         ensures shuts { OnOk result (Both (W.told wire.old) (W.told wire.new) (ShutsFor self.old.table.hub.ended self.new.table.hub.ended)) }
         ensures known { OnOk result (Both (W.told wire.old) (W.told wire.new) OnlyOpened) }
         ensures stands { OnOk result (KeepsPlay self.old.table.hub self.new.table.hub (C.chain self.old.table.cable) (C.chain self.new.table.cable) (W.told wire.old) (W.told wire.new)) }
+        ensures ends { OnOk result (KeepsEnds self.old.table.hub self.new.table.hub (C.chain self.old.table.cable) (W.told wire.old) (W.told wire.new)) }
     {
         let Some((conn, _)) = self.table.seat(grant) else {
             return Ok(());
@@ -244,6 +249,7 @@ impl<C: Cable> Sessions<C> {
         ensures shuts { OnOk result (Both (W.told wire.old) (W.told wire.new) (ShutsFor self.old.table.hub.ended self.new.table.hub.ended)) }
         ensures known { OnOk result (Both (W.told wire.old) (W.told wire.new) OnlyOpened) }
         ensures stands { OnOk result (FollowsEvent (TookNow (conn_at self.old.table.hub grant) piece.now) self.old.table.hub self.new.table.hub (C.chain self.old.table.cable) (C.chain self.new.table.cable) (W.told wire.old) (W.told wire.new)) }
+        ensures ends { OnOk result ((before : Option WireView) → TookNow (conn_at self.old.table.hub grant) piece.now before (W.told wire.old) → KeepsEnds self.old.table.hub self.new.table.hub (C.chain self.old.table.cable) before (W.told wire.new)) }
     {
         self.took(wire, grant, piece)?;
         self.give_more(wire, grant)
@@ -280,6 +286,7 @@ impl<C: Cable> Sessions<C> {
         ensures shuts { OnOk result (Both (W.told wire.old) (W.told wire.new) (ShutsFor self.old.table.hub.ended self.new.table.hub.ended)) }
         ensures known { OnOk result (Both (W.told wire.old) (W.told wire.new) OnlyOpened) }
         ensures stands { OnOk result (KeepsPlay self.old.table.hub self.new.table.hub (C.chain self.old.table.cable) (C.chain self.new.table.cable) (W.told wire.old) (W.told wire.new)) }
+        ensures ends { OnOk result (KeepsEnds self.old.table.hub self.new.table.hub (C.chain self.old.table.cable) (W.told wire.old) (W.told wire.new)) }
     {
         match wire.take(conn, piece) {
             Taken::Bytes(count) => self.use_bytes(wire, grant, &piece[..count]),
@@ -321,6 +328,7 @@ impl<C: Cable> Sessions<C> {
         ensures shuts { OnOk result (Both (W.told wire.old) (W.told wire.new) (ShutsFor self.old.table.hub.ended self.new.table.hub.ended)) }
         ensures known { OnOk result (Both (W.told wire.old) (W.told wire.new) OnlyOpened) }
         ensures stands { OnOk result (KeepsPlay self.old.table.hub self.new.table.hub (C.chain self.old.table.cable) (C.chain self.new.table.cable) (W.told wire.old) (W.told wire.new)) }
+        ensures ends { OnOk result (KeepsEnds self.old.table.hub self.new.table.hub (C.chain self.old.table.cable) (W.told wire.old) (W.told wire.new)) }
     {
         let want = self.table.want(grant).min(buffer.len());
         self.take_piece(wire, grant, conn, &mut buffer[..want])
@@ -355,6 +363,7 @@ impl<C: Cable> Sessions<C> {
         ensures shuts { OnOk result (Both (W.told wire.old) (W.told wire.new) (ShutsFor self.old.table.hub.ended self.new.table.hub.ended)) }
         ensures known { OnOk result (Both (W.told wire.old) (W.told wire.new) OnlyOpened) }
         ensures stands { OnOk result (KeepsPlay self.old.table.hub self.new.table.hub (C.chain self.old.table.cable) (C.chain self.new.table.cable) (W.told wire.old) (W.told wire.new)) }
+        ensures ends { OnOk result (KeepsEnds self.old.table.hub self.new.table.hub (C.chain self.old.table.cable) (W.told wire.old) (W.told wire.new)) }
     {
         if self.is_going(grant) {
             return self.take(wire, grant, conn, buffer);
@@ -389,6 +398,7 @@ impl<C: Cable> Sessions<C> {
         ensures shuts { OnOk result (Both (W.told wire.old) (W.told wire.new) (ShutsFor self.old.table.hub.ended self.new.table.hub.ended)) }
         ensures known { OnOk result (Both (W.told wire.old) (W.told wire.new) OnlyOpened) }
         ensures stands { OnOk result (KeepsPlay self.old.table.hub self.new.table.hub (C.chain self.old.table.cable) (C.chain self.new.table.cable) (W.told wire.old) (W.told wire.new)) }
+        ensures ends { OnOk result (KeepsEnds self.old.table.hub self.new.table.hub (C.chain self.old.table.cable) (W.told wire.old) (W.told wire.new)) }
     {
         let Some((conn, _)) = self.table.seat(grant) else {
             return Ok(());

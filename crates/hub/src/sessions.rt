@@ -14,7 +14,7 @@ ghost use Rattle.session_table.specs.Tables.{stand_at, reply_at, view_at};
 ghost use Rattle.wire_port.specs.declared.wire.Found.TheVariants.{Opened};
 ghost use Rattle.wire_port.specs.Calls.{IsOpen, CanBeShut};
 ghost use Rattle.grant_table.specs.Layouts.{first_place};
-ghost use Rattle.hub.specs.Standing.{KeepsPlay, FollowsEvent, TookNow, GoneNow, FoundNow, StandsOnBut};
+ghost use Rattle.hub.specs.Standing.{KeepsPlay, FollowsEvent, TookNow, GoneNow, FoundNow, StandsOnBut, EndsFollow, KeepsEnds};
 ghost use Rattle.wire_port.specs.Wires.{WireView};
 ghost use Rattle.wire_port.specs.Offers.{Answer};
 ghost use Rattle.wire_port.specs.Calls.{after_give, IsWire};
@@ -99,6 +99,7 @@ impl<C: Cable> Sessions<C> {
         ensures shuts { OnOk result (Both (W.told wire.old) (W.told wire.new) (ShutsFor self.old.table.hub.ended self.new.table.hub.ended)) }
         ensures known { OnOk result (Both (W.told wire.old) (W.told wire.new) OnlyOpened) }
         ensures stands { OnOk result (KeepsPlay self.old.table.hub self.new.table.hub (C.chain self.old.table.cable) (C.chain self.new.table.cable) (W.told wire.old) (W.told wire.new)) }
+        ensures ends { OnOk result (KeepsEnds self.old.table.hub self.new.table.hub (C.chain self.old.table.cable) (W.told wire.old) (W.told wire.new)) }
     {
         if self.table.is_ready(grant) {
             return self.serve(wire, grant, buffer);
@@ -126,6 +127,7 @@ impl<C: Cable> Sessions<C> {
         ensures shuts { OnOk result (Both (W.told wire.old) (W.told wire.new) (ShutsFor self.old.table.hub.ended self.new.table.hub.ended)) }
         ensures known { OnOk result (Both (W.told wire.old) (W.told wire.new) OnlyOpened) }
         ensures stands { OnOk result (KeepsPlay self.old.table.hub self.new.table.hub (C.chain self.old.table.cable) (C.chain self.new.table.cable) (W.told wire.old) (W.told wire.new)) }
+        ensures ends { OnOk result (KeepsEnds self.old.table.hub self.new.table.hub (C.chain self.old.table.cable) (W.told wire.old) (W.told wire.new)) }
     {
         for grant in 0..self.table.layout().grants() {
             self.serve_ready(wire, grant, buffer)?;
@@ -183,6 +185,7 @@ impl<C: Cable> Sessions<C> {
         ensures shuts { OnOk result (Both (W.told wire.old) (W.told wire.new) (ShutsFor self.old.table.hub.ended self.new.table.hub.ended)) }
         ensures known { OnOk result (Both (W.told wire.old) (W.told wire.new) OnlyOpened) }
         ensures stands { OnOk result (KeepsPlay self.old.table.hub self.new.table.hub (C.chain self.old.table.cable) (C.chain self.new.table.cable) (W.told wire.old) (W.told wire.new)) }
+        ensures ends { OnOk result (KeepsEnds self.old.table.hub self.new.table.hub (C.chain self.old.table.cable) (W.told wire.old) (W.told wire.new)) }
     {
         match self.grant_with(conn) {
             Some(grant) => self.serve(wire, grant, buffer),
@@ -218,6 +221,7 @@ impl<C: Cable> Sessions<C> {
         ensures cable { self.new.table.cable ≡ self.old.table.cable }
         ensures ended { self.new.table.hub.ended ≡ self.old.table.hub.ended }
         ensures stands { (port : ℕ) (wire : Option WireView) → Told wire IsWire → grant_of self.old.table.hub.layout port ≡ Some grant → FollowsEvent (FoundNow (Opened conn port)) self.old.table.hub self.new.table.hub (C.chain self.old.table.cable) (C.chain self.new.table.cable) wire wire }
+        ensures ends { (port : ℕ) (wire : Option WireView) → Told wire IsWire → grant_of self.old.table.hub.layout port ≡ Some grant → (before : Option WireView) → FoundNow (Opened conn port) before wire → KeepsEnds self.old.table.hub self.new.table.hub (C.chain self.old.table.cable) before wire }
     {
         self.gone[grant] = false;
         self.table.open(grant, conn);
@@ -241,6 +245,7 @@ impl<C: Cable> Sessions<C> {
         ensures shuts { Both (W.told wire.old) (W.told wire.new) (ShutsAfter (Opened conn port) self.old.table.hub []) }
         ensures known { Both (W.told wire.old) (W.told wire.new) OnlyOpened }
         ensures stands { FollowsEvent (FoundNow (Opened conn port)) self.old.table.hub self.new.table.hub (C.chain self.old.table.cable) (C.chain self.new.table.cable) (W.told wire.old) (W.told wire.new) }
+        ensures ends { (before : Option WireView) → FoundNow (Opened conn port) before (W.told wire.old) → KeepsEnds self.old.table.hub self.new.table.hub (C.chain self.old.table.cable) before (W.told wire.new) }
     {
         match self.free_grant(port) {
             Some(grant) => self.begin(grant, conn),
@@ -274,6 +279,7 @@ impl<C: Cable> Sessions<C> {
         ensures shuts { OnOk result (Both (W.told wire.old) (W.told wire.new) (ShutsAfter found self.old.table.hub self.new.table.hub.ended)) }
         ensures known { OnOk result (Both (W.told wire.old) (W.told wire.new) OnlyOpened) }
         ensures stands { OnOk result (FollowsEvent (FoundNow found) self.old.table.hub self.new.table.hub (C.chain self.old.table.cable) (C.chain self.new.table.cable) (W.told wire.old) (W.told wire.new)) }
+        ensures ends { OnOk result ((before : Option WireView) → FoundNow found before (W.told wire.old) → KeepsEnds self.old.table.hub self.new.table.hub (C.chain self.old.table.cable) before (W.told wire.new)) }
     {
         match found {
             Found::Opened(conn, port) => {
@@ -313,6 +319,7 @@ impl<C: Cable> Sessions<C> {
         ensures shuts { OnOk result (Both (W.told wire.old) (W.told wire.new) (ShutsAfter found self.old.table.hub self.new.table.hub.ended)) }
         ensures known { OnOk result (Both (W.told wire.old) (W.told wire.new) OnlyOpened) }
         ensures stands { OnOk result (FollowsEvent (FoundNow found) self.old.table.hub self.new.table.hub (C.chain self.old.table.cable) (C.chain self.new.table.cable) (W.told wire.old) (W.told wire.new)) }
+        ensures ends { OnOk result ((setting : Setting) (before : Option WireView) → FoundNow found before (W.told wire.old) → StandsOnBut setting [] self.old.table.hub (C.chain self.old.table.cable) before → EndsFollow setting before (W.told wire.new) self.new.table.hub.ended) }
     {
         self.table.forget_ended();
         self.attend(wire, found, buffer)
@@ -338,6 +345,7 @@ impl<C: Cable> Sessions<C> {
         ensures shuts { OnOk result (Both (W.told wire.old) (W.told wire.new) (ShutsFor [] self.new.table.hub.ended)) }
         ensures known { OnOk result (Both (W.told wire.old) (W.told wire.new) OnlyOpened) }
         ensures stands { OnOk result (KeepsPlay self.old.table.hub self.new.table.hub (C.chain self.old.table.cable) (C.chain self.new.table.cable) (W.told wire.old) (W.told wire.new)) }
+        ensures ends { OnOk result ((setting : Setting) → StandsOnBut setting [] self.old.table.hub (C.chain self.old.table.cable) (W.told wire.old) → EndsFollow setting (W.told wire.old) (W.told wire.new) self.new.table.hub.ended) }
     {
         self.table.forget_ended();
         self.rest(wire, buffer)

@@ -5,7 +5,8 @@ use Rattle.hub.proofs.Places.{admitted_below}
 use Rattle.hub.proofs.Beginning.{new_can, told_begun, turned_away}
 use Rattle.hub.proofs.Shutting.{away_shut}
 use Rattle.hub.proofs.OnTheWire.{known_can, shut_only}
-use Rattle.hub.proofs.Openings.{away_follows}
+use Rattle.hub.proofs.Openings.{admitted_granted, away_follows}
+use Rattle.hub.proofs.Ends.{away_ends}
 use Rattle.hub.proofs.sessions.Sessions.admit.Goals as goal
 
 pub begin-requires-clause-grant : goal.begin-requires-clause-grant
@@ -29,3 +30,9 @@ returns-in-None-clause-known g c = known_can c.args.conn _ _ (new_can c.args.con
 
 pub returns-in-None-clause-stands : goal.returns-in-None-clause-stands
 returns-in-None-clause-stands g c = away_follows c.args.self.now.table.hub c.args.self.now.gone.items _ c.args.conn c.args.port _ _ c.requires.whole c.in-None.ensures (g.met.W.Wire.is_wire c.args.wire.now) (g.met.W.Wire.is_wire c.shut.new.self) c.shut.ensures.told
+
+pub returns-in-None-clause-ends : goal.returns-in-None-clause-ends
+returns-in-None-clause-ends g c = away_ends c.args.self.now.table.hub c.args.self.now.gone.items (g.C.Cable.chain c.args.self.now.table.cable) c.args.conn c.args.port (g.W.Wire.told c.args.wire.now) (g.W.Wire.told c.shut.new.self) c.requires.whole c.in-None.ensures (g.met.W.Wire.is_wire c.args.wire.now) c.shut.ensures.told
+
+pub returns-in-Some-clause-ends : goal.returns-in-Some-clause-ends
+returns-in-Some-clause-ends g c = c.begin.ensures.ends c.args.port (g.W.Wire.told c.args.wire.now) (g.met.W.Wire.is_wire c.args.wire.now) (admitted_granted c.args.self.now.table.hub c.args.port c.in-Some.grant c.in-Some.ensures)

@@ -2,6 +2,7 @@ use Rattle.std.proofs.Common.{ap}
 use Rattle.hub.specs.Standing.{opens_none}
 use Rattle.hub.proofs.Giving.{keeps_same}
 use Rattle.hub.proofs.Openings.{found_follows, found_follows_ok}
+use Rattle.hub.proofs.Ends.{found_ends, found_ends_ok}
 use Rattle.hub.proofs.sessions.Sessions.attend.Goals as goal
 
 pub returns-in-Ready-clause-stands : goal.returns-in-Ready-clause-stands
@@ -15,3 +16,15 @@ returns-in-Nothing-clause-stands g c = found_follows c.args.found c.args.self.no
 
 pub returns-in-End-clause-stands : goal.returns-in-End-clause-stands
 returns-in-End-clause-stands g c = found_follows c.args.found c.args.self.now.table.hub c.args.self.now.table.hub (g.C.Cable.chain c.args.self.now.table.cable) (g.C.Cable.chain c.args.self.now.table.cable) (g.W.Wire.told c.args.wire.now) (g.W.Wire.told c.args.wire.now) (ap opens_none c.in-End.is) (keeps_same c.args.self.now.table.hub (g.C.Cable.chain c.args.self.now.table.cable) (g.W.Wire.told c.args.wire.now))
+
+pub returns-in-Ready-clause-ends : goal.returns-in-Ready-clause-ends
+returns-in-Ready-clause-ends g c = found_ends_ok c.args.found c.args.self.now.table.hub c.serve_conn.new.self.table.hub (g.C.Cable.chain c.args.self.now.table.cable) (g.W.Wire.told c.args.wire.now) (g.W.Wire.told c.serve_conn.new.wire) c.serve_conn.result (ap opens_none c.in-Ready.is) c.serve_conn.ensures.ends
+
+pub returns-in-Room-clause-ends : goal.returns-in-Room-clause-ends
+returns-in-Room-clause-ends g c = found_ends_ok c.args.found c.args.self.now.table.hub c.serve_conn-in-Room.new.self.table.hub (g.C.Cable.chain c.args.self.now.table.cable) (g.W.Wire.told c.args.wire.now) (g.W.Wire.told c.serve_conn-in-Room.new.wire) c.serve_conn-in-Room.result (ap opens_none c.in-Room.is) c.serve_conn-in-Room.ensures.ends
+
+pub returns-in-Nothing-clause-ends : goal.returns-in-Nothing-clause-ends
+returns-in-Nothing-clause-ends g c = found_ends c.args.found c.args.self.now.table.hub c.args.self.now.table.hub (g.C.Cable.chain c.args.self.now.table.cable) (g.W.Wire.told c.args.wire.now) (g.W.Wire.told c.args.wire.now) (ap opens_none c.in-Nothing.is) (λ setting earlier s since. since)
+
+pub returns-in-End-clause-ends : goal.returns-in-End-clause-ends
+returns-in-End-clause-ends g c = found_ends c.args.found c.args.self.now.table.hub c.args.self.now.table.hub (g.C.Cable.chain c.args.self.now.table.cable) (g.W.Wire.told c.args.wire.now) (g.W.Wire.told c.args.wire.now) (ap opens_none c.in-End.is) (λ setting earlier s since. since)

@@ -1,11 +1,12 @@
 use Rattle.wire_port.specs.Offers.{Answer}
-use Rattle.std.proofs.Common.{arith, length}
+use Rattle.std.proofs.Common.{ap, arith, length, refl, take}
 use Rattle.hub.proofs.AfterCalls.{open_set}
 use Rattle.hub.proofs.OnTheWire.{gave_none, give_lost}
 use Rattle.hub.proofs.Shutting.{give_shuts_none, shuts_then}
 use Rattle.hub.specs.Served.{is_gone}
 use Rattle.hub.proofs.OnTheWire.{given_only, in_use_open, known_open, known_then}
 use Rattle.hub.proofs.Giving.{bytes_keep, lost_keeps, none_keeps, some_bytes}
+use Rattle.hub.proofs.Ends.{given_ends, lost_ends}
 use Rattle.hub.proofs.sessions.Sessions.give.Goals as goal
 
 pub lose-requires-clause-conns : goal.lose-requires-clause-conns
@@ -32,3 +33,15 @@ returns-in-NotNow-clause-stands g c = none_keeps (λ cable. g.C.Cable.chain cabl
 pub returns-in_ok-lose-in-Gone-clause-stands : goal.returns-in_ok-lose-in-Gone-clause-stands
 returns-in_ok-lose-in-Gone-clause-stands g c = lost_keeps c.args.self.now.table.hub c.lose.new.self.table.hub c.args.grant c.args.conn (length c.reply-piece.result.now) (g.C.Cable.chain c.args.self.now.table.cable) (g.C.Cable.chain c.lose.new.self.table.cable) (g.W.Wire.told c.args.wire.now) (g.W.Wire.told c.give.new.self) (g.W.Wire.told c.lose.new.wire)
     c.requires.conn c.in-Gone.ensures.told c.in_ok-lose-in-Gone.ensures.stands
+
+pub returns-in-Bytes-clause-ends : goal.returns-in-Bytes-clause-ends
+returns-in-Bytes-clause-ends g c = given_ends c.args.conn (length c.reply-piece.result.now) (Answer.Bytes (take c.in-Bytes.count c.reply-piece.result.now)) c.args.self.now.table.hub c.gave.new.self.table.hub (g.C.Cable.chain c.args.self.now.table.cable) (g.W.Wire.told c.args.wire.now) (g.W.Wire.told c.give.new.self)
+    refl c.gave.ensures.ended c.in-Bytes.ensures.told
+
+pub returns-in-NotNow-clause-ends : goal.returns-in-NotNow-clause-ends
+returns-in-NotNow-clause-ends g c = given_ends c.args.conn (length c.reply-piece.result.now) Answer.NotNow c.args.self.now.table.hub c.set_ready-in-NotNow.new.self.hub (g.C.Cable.chain c.args.self.now.table.cable) (g.W.Wire.told c.args.wire.now) (g.W.Wire.told c.give.new.self)
+    refl (ap (λ table. table.hub.ended) c.set_ready-in-NotNow.ensures) c.in-NotNow.ensures.told
+
+pub returns-in_ok-lose-in-Gone-clause-ends : goal.returns-in_ok-lose-in-Gone-clause-ends
+returns-in_ok-lose-in-Gone-clause-ends g c = lost_ends c.args.self.now.table.hub c.lose.new.self.table.hub c.args.grant c.args.conn (length c.reply-piece.result.now) (g.C.Cable.chain c.args.self.now.table.cable) (g.W.Wire.told c.args.wire.now) (g.W.Wire.told c.give.new.self) (g.W.Wire.told c.lose.new.wire)
+    c.requires.conn c.in-Gone.ensures.told c.in_ok-lose-in-Gone.ensures.ends

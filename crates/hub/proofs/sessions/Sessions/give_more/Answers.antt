@@ -1,5 +1,6 @@
 use Rattle.hub.proofs.AfterCalls.{open_set}
 use Rattle.hub.proofs.Giving.{keeps_ready, keeps_then}
+use Rattle.hub.proofs.Ends.{ends_ready, ends_then}
 use Rattle.hub.proofs.sessions.Sessions.give_more.Goals as goal
 
 pub returns-clause-conns : goal.returns-clause-conns
@@ -8,3 +9,7 @@ returns-clause-conns g c = open_set c.give.new.self.table c.set_ready.new.self _
 pub returns-clause-stands : goal.returns-clause-stands
 returns-clause-stands g c = keeps_then c.args.self.now.table.hub c.give.new.self.table.hub c.set_ready.new.self.hub (g.C.Cable.chain c.args.self.now.table.cable) (g.C.Cable.chain c.give.new.self.table.cable) (g.C.Cable.chain c.set_ready.new.self.cable) (g.W.Wire.told c.args.wire.now) (g.W.Wire.told c.give.new.wire) (g.W.Wire.told c.give.new.wire)
     c.in_ok-all.ensures.stands (keeps_ready (λ cable. g.C.Cable.chain cable) c.give.new.self.table c.set_ready.new.self _ (g.W.Wire.told c.give.new.wire) c.set_ready.ensures)
+
+pub returns-clause-ends : goal.returns-clause-ends
+returns-clause-ends g c = ends_then c.args.self.now.table.hub c.give.new.self.table.hub c.set_ready.new.self.hub (g.C.Cable.chain c.args.self.now.table.cable) (g.C.Cable.chain c.give.new.self.table.cable) (g.W.Wire.told c.args.wire.now) (g.W.Wire.told c.give.new.wire) (g.W.Wire.told c.give.new.wire)
+    c.in_ok-all.ensures.stands c.in_ok-all.ensures.ends (ends_ready (g.C.Cable.chain c.give.new.self.table.cable) c.give.new.self.table c.set_ready.new.self _ (g.W.Wire.told c.give.new.wire) c.set_ready.ensures)

@@ -1,13 +1,14 @@
-use Rattle.std.proofs.Common.{◌≡◌, ℕ, Bool, ◌<◌, ◌+◌, ◌∷◌, ◌∙◌, ap, sym, subst, arith, length, drop, List}
+use Rattle.std.proofs.Common.{◌≡◌, ℕ, Bool, ◌<◌, ◌+◌, ◌∷◌, ◌∙◌, refl, ap, sym, subst, arith, length, drop, List}
 use Rattle.plays.specs.Plays.{SessionEnd}
 use Rattle.session_table.specs.Tables.{TableView}
 use Rattle.session_table.specs.Shown.{session_end}
 use Rattle.hub.specs.Served.{ready_as}
 use Rattle.hub.specs.Standing.{StandsOnBut}
+use Rattle.hub.proofs.Ends.{follow_none, more_ends}
 use Rattle.hub.proofs.LettingGo.{let_more}
-use Rattle.hub.proofs.Shutting.{due_more, due_done}
-use Rattle.hub.proofs.SeatLists.{lets_more, nothing_left}
-use Rattle.hub.proofs.OnTheWire.{known_then, first_there, first_open, rest_left, rest_open}
+use Rattle.hub.proofs.Shutting.{due_first, due_more, due_done}
+use Rattle.hub.proofs.SeatLists.{lets_first, lets_more, nothing_left}
+use Rattle.hub.proofs.OnTheWire.{known_same, known_then, first_there, first_open, rest_left, rest_open}
 use Rattle.hub.proofs.sessions.Sessions.let_all_go.Goals as goal
 
 there : {C : Type 0} (first now : TableView C) (at : ℕ) (flags : List Bool) (ended : SessionEnd) → now ≡ ready_as flags first → drop at now.hub.ended ≡ ended ∷ drop (at + 1) now.hub.ended
@@ -23,6 +24,20 @@ let_go-requires-clause-flags g c = subst (λ gone. c.ended_at-ended.result.grant
 pub let_go-requires-clause-open : goal.let_go-requires-clause-open
 let_go-requires-clause-open g c = rw c.loop-at.invariant.gone (first_open c.args.self.now.table.hub c.args.self.now.gone.items _ _ (session_end c.ended_at-ended.result) _ (there c.args.self.now.table c.loop-at.self.table c.loop-at.at _ (session_end c.ended_at-ended.result) c.loop-at.invariant.table.table c.ended_at-ended.ensures) c.loop-at.invariant.left c.loop-at.invariant.conns)
 
+pub loop-at-init : goal.loop-at-init
+loop-at-init g c = record {
+  table = lets_first c.args.self.now.table c.args.earlier;
+  gone = refl;
+  left = c.requires.left;
+  conns = c.requires.conns;
+  due = due_first (drop c.args.earlier c.args.self.now.table.hub.ended) (g.W.Wire.told c.args.wire.now);
+  known = known_same (g.W.Wire.told c.args.wire.now);
+  stands = λ setting stands. stands;
+  ends = λ setting stands. follow_none setting (drop c.args.earlier c.args.self.now.table.hub.ended) c.args.self.now.table.hub (g.C.Cable.chain c.args.self.now.table.cable) (g.W.Wire.told c.args.wire.now) stands;
+  door = refl;
+  faults = refl;
+}
+
 pub loop-at-preserved : goal.loop-at-preserved
 loop-at-preserved g c = record {
   table = lets_more c.args.self.now.table c.loop-at.self.table c.let_go.new.self.table _ c.loop-at.at (session_end c.ended_at-ended.result) c.ended_at-ended.ensures c.loop-at.invariant.table c.let_go.ensures.ready;
@@ -34,6 +49,9 @@ loop-at-preserved g c = record {
   stands = λ setting stands. let_more g.C.Cable.chain setting c.args.self.now.table c.loop-at.self.table c.let_go.new.self.table _ c.args.self.now.gone.items c.loop-at.self.gone.items c.loop-at.at (session_end c.ended_at-ended.result) _ _
       c.loop-at.invariant.table.table (ap (λ gone. gone.items) c.loop-at.invariant.gone) (there c.args.self.now.table c.loop-at.self.table c.loop-at.at _ (session_end c.ended_at-ended.result) c.loop-at.invariant.table.table c.ended_at-ended.ensures)
       c.loop-at.invariant.left c.loop-at.invariant.conns (c.let_go.ensures.stands setting) (c.loop-at.invariant.stands setting stands);
+  ends = λ setting stands. more_ends g.C.Cable.chain setting c.args.self.now.table c.loop-at.self.table _ c.args.self.now.gone.items c.loop-at.self.gone.items c.loop-at.at (session_end c.ended_at-ended.result) (g.W.Wire.told c.args.wire.now) (g.W.Wire.told c.loop-at.wire) (g.W.Wire.told c.let_go.new.wire)
+      c.loop-at.invariant.table.table (ap (λ gone. gone.items) c.loop-at.invariant.gone) (there c.args.self.now.table c.loop-at.self.table c.loop-at.at _ (session_end c.ended_at-ended.result) c.loop-at.invariant.table.table c.ended_at-ended.ensures)
+      c.loop-at.invariant.left c.loop-at.invariant.conns (c.let_go.ensures.ends setting) (c.loop-at.invariant.stands setting stands) (c.loop-at.invariant.ends setting stands);
   door = c.let_go.ensures.door ∙ c.loop-at.invariant.door;
   faults = c.let_go.ensures.faults ∙ c.loop-at.invariant.faults;
 }

@@ -4,6 +4,7 @@ use Rattle.hub.specs.Served.{AreWhole, AreCalm, ConnsAreOpen}
 use Rattle.hub.proofs.AfterCalls.{calm_set, calm_then, here_open, keeps_whole, left_from, open_from, open_set, went_flagged, whole_set, whole_then}
 use Rattle.hub.proofs.Shutting.{shuts_beyond, shuts_moved}
 use Rattle.hub.proofs.Events.{gone_from, set_keeps}
+use Rattle.hub.proofs.Ends.{gone_ends, settled_ends}
 use Rattle.hub.proofs.sessions.Sessions.peer_gone.Goals as goal
 
 pub settle-requires-clause-left : goal.settle-requires-clause-left
@@ -34,3 +35,12 @@ returns-clause-stands g c = λ before event setting stands. set_keeps (λ cable.
     (went_flagged c.args.grant _ c.args.self.now.table.hub c.peer_gone.new.self.hub c.args.self.now.gone.items (c.in_ok-peer_gone.ensures.went c.requires.rests) c.requires.own c.requires.others)
     (gone_from setting c.args.self.now.table.hub c.peer_gone.new.self.hub c.args.self.now.gone.items c.args.grant (g.C.Cable.chain c.args.self.now.table.cable) (g.C.Cable.chain c.peer_gone.new.self.cable) before (g.W.Wire.told c.args.wire.now) _ c.ended_count-earlier.ensures
     c.requires.whole c.requires.others c.requires.grant c.requires.here c.in_ok-peer_gone.ensures.kept (c.in_ok-peer_gone.ensures.went c.requires.rests) c.in_ok-peer_gone.ensures.follows c.requires.conns (g.met.W.Wire.is_wire c.args.wire.now) event stands))
+
+pub returns-clause-ends : goal.returns-clause-ends
+returns-clause-ends g c = λ before event setting earlier stands since. settled_ends setting earlier c.peer_gone.new.self.hub c.set_ready.new.self.hub (g.W.Wire.told c.args.wire.now) (g.W.Wire.told c.settle.new.wire)
+    (ap (λ table. table.hub.ended) c.set_ready.ensures ∙ ap (λ table. table.hub.ended) c.settle.ensures.table)
+    (c.settle.ensures.ends setting
+    (gone_from setting c.args.self.now.table.hub c.peer_gone.new.self.hub c.args.self.now.gone.items c.args.grant (g.C.Cable.chain c.args.self.now.table.cable) (g.C.Cable.chain c.peer_gone.new.self.cable) before (g.W.Wire.told c.args.wire.now) _ c.ended_count-earlier.ensures
+    c.requires.whole c.requires.others c.requires.grant c.requires.here c.in_ok-peer_gone.ensures.kept (c.in_ok-peer_gone.ensures.went c.requires.rests) c.in_ok-peer_gone.ensures.follows c.requires.conns (g.met.W.Wire.is_wire c.args.wire.now) event stands))
+    (gone_ends setting earlier c.args.self.now.table.hub c.peer_gone.new.self.hub c.args.self.now.gone.items c.args.grant (g.C.Cable.chain c.args.self.now.table.cable) (g.C.Cable.chain c.peer_gone.new.self.cable) before (g.W.Wire.told c.args.wire.now)
+    c.requires.whole c.requires.grant c.requires.here c.in_ok-peer_gone.ensures.follows event stands since)

@@ -7,6 +7,7 @@ use Rattle.hub.proofs.Shutting.{take_shuts_none, shuts_then_ok}
 use Rattle.hub.specs.Served.{is_gone}
 use Rattle.hub.proofs.OnTheWire.{in_use_open, known_open, known_then_ok, taken_only}
 use Rattle.hub.proofs.Events.{lost_keeps, none_keeps, took_keeps}
+use Rattle.hub.proofs.Ends.{came_ends, left_ends, untaken_ends}
 use Rattle.hub.proofs.sessions.Sessions.take_piece.Goals as goal
 
 pub take-requires-clause-open : goal.take-requires-clause-open
@@ -43,3 +44,15 @@ returns-in-NotNow-clause-stands g c = none_keeps (λ cable. g.C.Cable.chain cabl
 pub returns-in-Gone-clause-stands : goal.returns-in-Gone-clause-stands
 returns-in-Gone-clause-stands g c = lost_keeps _ c.args.conn c.args.self.now.table.hub c.lose.new.self.table.hub (g.C.Cable.chain c.args.self.now.table.cable) (g.C.Cable.chain c.lose.new.self.table.cable)
     (g.W.Wire.told c.args.wire.now) (g.W.Wire.told c.take.new.self) (g.W.Wire.told c.lose.new.wire) c.in-Gone.ensures.told (rw c.requires.conn c.lose.ensures.stands)
+
+pub returns-in-Bytes-clause-ends : goal.returns-in-Bytes-clause-ends
+returns-in-Bytes-clause-ends g c = came_ends _ c.args.conn (take c.in-Bytes.count c.take.new.buf) c.args.self.now.table.hub c.use_bytes.new.self.table.hub (g.C.Cable.chain c.args.self.now.table.cable)
+    (g.W.Wire.told c.args.wire.now) (g.W.Wire.told c.take.new.self) (g.W.Wire.told c.use_bytes.new.wire) c.in-Bytes.ensures.told (rw c.requires.conn c.use_bytes.ensures.ends)
+
+pub returns-in-NotNow-clause-ends : goal.returns-in-NotNow-clause-ends
+returns-in-NotNow-clause-ends g c = untaken_ends c.args.conn c.args.self.now.table.hub c.set_ready.new.self.hub (g.C.Cable.chain c.args.self.now.table.cable) (g.W.Wire.told c.args.wire.now) (g.W.Wire.told c.take.new.self)
+    (ap (λ table. table.hub.ended) c.set_ready.ensures) c.in-NotNow.ensures.told
+
+pub returns-in-Gone-clause-ends : goal.returns-in-Gone-clause-ends
+returns-in-Gone-clause-ends g c = left_ends _ c.args.conn c.args.self.now.table.hub c.lose.new.self.table.hub (g.C.Cable.chain c.args.self.now.table.cable)
+    (g.W.Wire.told c.args.wire.now) (g.W.Wire.told c.take.new.self) (g.W.Wire.told c.lose.new.wire) c.in-Gone.ensures.told (rw c.requires.conn c.lose.ensures.ends)

@@ -4,6 +4,7 @@ use Rattle.hub.specs.Served.{AreWhole, AreCalm}
 use Rattle.hub.proofs.AfterCalls.{calm_then, going_flagged, keeps_whole, left_from, open_from, went_flagged, whole_then}
 use Rattle.hub.proofs.Shutting.{shuts_beyond, shuts_moved}
 use Rattle.hub.proofs.Events.{took_from}
+use Rattle.hub.proofs.Ends.{settled_ends, took_ends}
 use Rattle.hub.proofs.sessions.Sessions.took.Goals as goal
 
 pub settle-requires-clause-left : goal.settle-requires-clause-left
@@ -27,3 +28,11 @@ returns-clause-stands g c = λ before event setting stands. c.settle.ensures.sta
     (went_flagged c.args.grant _ c.args.self.now.table.hub c.took.new.self.hub c.args.self.now.gone.items c.in_ok-took.ensures.went (going_flagged c.args.self.now.table.hub c.args.self.now.gone.items c.args.grant c.requires.calm.flagged c.requires.going) (λ other ne taken. c.requires.calm.flagged other taken))
     (took_from setting c.args.self.now.table.hub c.took.new.self.hub c.args.self.now.gone.items c.args.grant c.args.piece.now (g.C.Cable.chain c.args.self.now.table.cable) (g.C.Cable.chain c.took.new.self.cable) before (g.W.Wire.told c.args.wire.now) _ c.ended_count-earlier.ensures
     c.requires.whole c.requires.calm.flagged c.requires.grant c.requires.going c.in_ok-took.ensures.kept c.in_ok-took.ensures.went c.in_ok-took.ensures.follows c.requires.conns (g.met.W.Wire.is_wire c.args.wire.now) event stands)
+
+pub returns-clause-ends : goal.returns-clause-ends
+returns-clause-ends g c = λ before event setting earlier stands since. settled_ends setting earlier c.took.new.self.hub c.settle.new.self.table.hub (g.W.Wire.told c.args.wire.now) (g.W.Wire.told c.settle.new.wire) (ap (λ table. table.hub.ended) c.settle.ensures.table)
+    (c.settle.ensures.ends setting
+    (took_from setting c.args.self.now.table.hub c.took.new.self.hub c.args.self.now.gone.items c.args.grant c.args.piece.now (g.C.Cable.chain c.args.self.now.table.cable) (g.C.Cable.chain c.took.new.self.cable) before (g.W.Wire.told c.args.wire.now) _ c.ended_count-earlier.ensures
+    c.requires.whole c.requires.calm.flagged c.requires.grant c.requires.going c.in_ok-took.ensures.kept c.in_ok-took.ensures.went c.in_ok-took.ensures.follows c.requires.conns (g.met.W.Wire.is_wire c.args.wire.now) event stands))
+    (took_ends setting earlier c.args.self.now.table.hub c.took.new.self.hub c.args.self.now.gone.items c.args.grant c.args.piece.now (g.C.Cable.chain c.args.self.now.table.cable) (g.C.Cable.chain c.took.new.self.cable) before (g.W.Wire.told c.args.wire.now)
+    c.requires.whole c.requires.grant c.requires.going c.in_ok-took.ensures.follows event stands since)
