@@ -41,24 +41,25 @@ runs_same status files name name' number number' trst left rest before after sen
 
 -- the files say one setup
 module _ (told : List NamedBytes) (name : List ℕ) (setup : Setup) (said : setup_at told name ≡ Some (Ok setup)) where
-  not_absent : {A : Type 0} → setup_at told name ≡ None → A
+  pub not_absent : {A : Type 0} → setup_at told name ≡ None → A
   not_absent is = absurd (let q : None ≡ Some (Ok setup) = sym is ∙ said in cc)
 
   not_refused : {A : Type 0} (refused : SetupRefusal) → setup_at told name ≡ Some (Err refused) → A
   not_refused refused is = absurd (let q : Some (Err refused) ≡ Some (Ok setup) = sym is ∙ said in cc)
 
-  one_setup : (other : Setup) → setup_at told name ≡ Some (Ok other) → other ≡ setup
+  pub one_setup : (other : Setup) → setup_at told name ≡ Some (Ok other) → other ≡ setup
   one_setup other is = let q : Some (Ok other) ≡ Some (Ok setup) = sym is ∙ said in cc
 
-  lacking_ends : (refused : SetupRefusal) (before now status : ℕ) → IsRefusal refused told name → LoadCauses (Refused refused) before now → (Rose before now → ⊥) → status ≡ no_setup_status (Refused refused) → IsEndStatus status ⊎ (status ≡ 9)
-  lacking_ends refusal.Memory before now status is causes calm says = inr says
-  lacking_ends refusal.Fault before now status is causes calm says = absurd (calm causes.1)
-  lacking_ends (refusal.Plain cause place) before now status is causes calm says = not_refused (refusal.Plain cause place) is
-  lacking_ends (refusal.Layout fault) before now status is causes calm says = not_refused (refusal.Layout fault) is
-  lacking_ends (refusal.Absent device) before now status is causes calm says = not_refused (refusal.Absent device) is
-  lacking_ends (refusal.Bsdl device at cause) before now status is causes calm says = not_refused (refusal.Bsdl device at cause) is
-  lacking_ends (refusal.Pins device) before now status is causes calm says = not_refused (refusal.Pins device) is
-  lacking_ends (refusal.Cell net) before now status is causes calm says = not_refused (refusal.Cell net) is
+  -- where no load failed, only memory was wanting
+  pub lacking_ends : {A : Type 0} (refused : SetupRefusal) (before now status : ℕ) → IsRefusal refused told name → LoadCauses (Refused refused) before now → (Rose before now → ⊥) → status ≡ no_setup_status (Refused refused) → (status ≡ 9 → A) → A
+  lacking_ends refusal.Memory before now status is causes calm says memory = memory says
+  lacking_ends refusal.Fault before now status is causes calm says memory = absurd (calm causes.1)
+  lacking_ends (refusal.Plain cause place) before now status is causes calm says memory = not_refused (refusal.Plain cause place) is
+  lacking_ends (refusal.Layout fault) before now status is causes calm says memory = not_refused (refusal.Layout fault) is
+  lacking_ends (refusal.Absent device) before now status is causes calm says memory = not_refused (refusal.Absent device) is
+  lacking_ends (refusal.Bsdl device at cause) before now status is causes calm says memory = not_refused (refusal.Bsdl device at cause) is
+  lacking_ends (refusal.Pins device) before now status is causes calm says memory = not_refused (refusal.Pins device) is
+  lacking_ends (refusal.Cell net) before now status is causes calm says memory = not_refused (refusal.Cell net) is
 
 found_below : {X : Type 0} (xs : List X) (place : ℕ) (x : X) → slice_get xs place ≡ Some x → place < length xs
 found_below [] place x found = absurd (let q : None ≡ Some x = found in cc)
@@ -83,7 +84,7 @@ sink_later (Served (Ended end)) old new causes = omega (arith, causes.1.2)
 sink_later (Served ReadFault) old new causes = omega (arith, causes.1.2)
 sink_later (Served WriteFault) old new causes = causes.1.2.0
 
-rose_more : (old between new : ℕ) → old ≤ between → Rose between new → Rose old new
+pub rose_more : (old between new : ℕ) → old ≤ between → Rose between new → Rose old new
 rose_more old between new later rose = omega (arith, later, rose)
 
 module _ (told : List NamedBytes) (name : List ℕ) (number : ℕ) (trst : Bool) (setup : Setup) (grant : GrantShape) (fits : Fits (Some told) name number trst setup grant)
@@ -91,7 +92,7 @@ module _ (told : List NamedBytes) (name : List ℕ) (number : ℕ) (trst : Bool)
     (shelf : Rose old.shelf new.shelf → ⊥) (source : Rose old.source new.source → ⊥) (cable : Rose old.cable new.cable → ⊥) (sink : Rose old.sink new.sink → ⊥) where
   outcome_ends : (outcome : Outcome) (status : ℕ) → Pipes outcome (Some told) name number trst left rest before after sent sent' → PipeCauses outcome old new → status ≡ status_of outcome → IsEndStatus status ⊎ (status ≡ 9)
   outcome_ends (NoSetup Absent) status pipes causes says = not_absent told name setup fits.said pipes.0
-  outcome_ends (NoSetup (Refused refused)) status pipes causes says = lacking_ends told name setup fits.said refused old.shelf new.shelf status pipes.0 causes.0 shelf says
+  outcome_ends (NoSetup (Refused refused)) status pipes causes says = lacking_ends told name setup fits.said refused old.shelf new.shelf status pipes.0 causes.0 shelf says inr
   outcome_ends NoTrst status pipes causes says =
       let same = one_setup told name setup fits.said pipes.0.setup pipes.0.said in
       absurd (let q : false ≡ true = sym pipes.0.none ∙ fits.trst_is (subst (λ s. uses_trst s ≡ true) same pipes.0.uses) in cc)

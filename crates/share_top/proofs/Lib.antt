@@ -1,7 +1,9 @@
-pub mod Printing
 pub mod HexLaws
 pub mod Lines
 pub mod SetupLaws
 pub mod SessionLaws
 pub mod PipeLaws
+pub mod FreshLaws
+pub mod ServeLaws
 pub mod CommandLaws
+pub mod ServeCommandLaws

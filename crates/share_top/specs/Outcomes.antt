@@ -4,10 +4,7 @@ use Rattle.std.specs.declared.option.Option.{Option}
 use Rattle.base_types.specs.Counts.{Rose}
 use Rattle.std.specs.Io.KnownBytes.{Appends}
 use Rattle.ports.specs.Streams.{AppendsFront}
-
--- a count of faults that rose
-abbrev pub Grew : ℕ → ℕ → Type 0
-Grew before now = (before ≤ now) × Rose before now
+pub use Rattle.text_lines.specs.Printed.{Grew}
 
 -- the last line went out whole, and the status is its own; or a front of the line went out, and the status is 5, and then the sink's count rose
 abbrev pub Tells : (own : ℕ) → (line : List ℕ) → (status : ℕ) → Option (List ℕ) → Option (List ℕ) → ℕ → ℕ → Type 0

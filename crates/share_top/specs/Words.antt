@@ -21,3 +21,11 @@ IsGrantNumber number = (1 ≤ number) × (number ≤ 99)
 -- the words are not `pipe` of any setup and grant
 abbrev pub NoPipe : List (List ℕ) → Type 0
 NoPipe words = (name : List ℕ) (number : ℕ) → IsGrantNumber number → words ≢ pipe_words name number
+
+-- `serve` of the setup of this name
+abbrev pub serve_words : List ℕ → List (List ℕ)
+serve_words name = codes "serve" ∷ name ∷ []
+
+-- the words are not `serve` of any setup
+abbrev pub NoServe : List (List ℕ) → Type 0
+NoServe words = (name : List ℕ) → words ≢ serve_words name

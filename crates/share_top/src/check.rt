@@ -3,12 +3,12 @@ ghost use Rattle.std.specs.Prelude.{◌≡◌};
 ghost use Rattle.share_top.specs.CheckRuns as runs;
 ghost use Rattle.share_top.specs.Setups.{LoadsListed};
 
-use crate::line::Line;
 use crate::print::print_setup;
 use crate::setup::{NoSetup, load_setup};
 use crate::tell::{WRITE_FAULT, tell};
 use ports::{Shelf, Sink};
 use std::alloc::Global;
+use text_lines::Line;
 
 /// How `check` ends, before its last line is written.
 #[derive(Clone, Copy, Debug, PartialEq, Eq)]

@@ -75,8 +75,8 @@ fn pipe_command<B: Bench, S: Shelf, I: Source, O: Sink>(
     RanLocal { status, bench, out }
 }
 
-// Tells that the words are no command.
-fn no_command<B, O: Sink>(bench: B, out: O) -> RanLocal<B, O>
+/// Tells that the words are no command.
+pub fn no_command<B, O: Sink>(bench: B, out: O) -> RanLocal<B, O>
     ensures tells { Tells 2 (codes "words\n") result.status (O.sent out) (O.sent result.out) (O.fault_count out) (O.fault_count result.out) }
     ensures bench { result.bench ≡ bench }
 {

@@ -8,15 +8,23 @@ mod outcome;
 mod pipe;
 mod print;
 mod refusal;
+mod running;
+mod serve;
+mod serve_outcome;
+mod serving;
 mod setup;
 mod tell;
 mod words;
 
 pub use command::{RanLocal, local_command};
+pub use running::run;
+pub use serving::{Ran, serve_command};
 
 #[cfg(test)]
 mod check_tests;
 #[cfg(test)]
 mod pipe_tests;
+#[cfg(test)]
+mod serve_tests;
 #[cfg(test)]
 mod test_files;

@@ -1,54 +1,8 @@
-// A line of the output, put together without memory.
+// Numbers of base 16 in a line.
 ghost use Rattle.std.specs.Prelude.{◌≡◌, ◌≤◌, ◌<◌, ◌+◌, ◌*◌, ◌++◌, ◌∷◌, [], length};
-ghost use Rattle.std.specs.Fmt.{decimal};
 ghost use Rattle.share_top.specs.Checks.{hex_digit, hex_digits, without_zeros, hex};
 
-use arrayvec::ArrayVec;
-
-/// A line, or a piece of one.
-pub type Line = ArrayVec<u8, 1024>;
-
-/// Puts a text behind the line.
-pub fn push_text(line: &mut Line, text: &[u8])
-    requires { length line.old.items + length text.now ≤ 1024 }
-    ensures { line.new.items ≡ line.old.items ++ text.now }
-{
-    match line.try_extend_from_slice(text) {
-        Ok(()) => (),
-        Err(_) => unreachable!(),
-    }
-}
-
-/// Puts a text and a number behind the line.
-pub fn push_number(line: &mut Line, text: &[u8], number: u64)
-    requires { length line.old.items + length text.now + 20 ≤ 1024 }
-    ensures is { line.new.items ≡ line.old.items ++ text.now ++ decimal number }
-    ensures room { length line.new.items ≤ length line.old.items + length text.now + 20 }
-{
-    push_text(line, text);
-    push_text(line, itoa::Buffer::new().format(number).as_bytes());
-}
-
-/// A line of this text.
-pub fn text_line(text: &[u8]) -> Line
-    requires { length text.now ≤ 1024 }
-    ensures { result.items ≡ text.now }
-{
-    let mut line = Line::new();
-    push_text(&mut line, text);
-    line
-}
-
-/// A line of a text and a number.
-pub fn number_line(text: &[u8], number: u64) -> Line
-    requires { length text.now ≤ 1000 }
-    ensures { result.items ≡ text.now ++ decimal number ++ 10 ∷ [] }
-{
-    let mut line = Line::new();
-    push_number(&mut line, text, number);
-    push_text(&mut line, b"\n");
-    line
-}
+use text_lines::{Line, push_text};
 
 // A digit of base 16.
 fn hex_digit(value: u8) -> u8

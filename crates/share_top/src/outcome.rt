@@ -2,11 +2,11 @@
 ghost use Rattle.std.specs.Prelude.{◌≡◌};
 ghost use Rattle.share_top.specs.Pipes as pipes;
 
-use crate::line::{Line, number_line, push_number, push_text, text_line};
 use crate::setup::NoSetup;
 use crate::tell::WRITE_FAULT;
 use client_session::End;
 use lone_session::Served;
+use text_lines::{Line, number_line, push_number, push_text, text_line};
 
 /// The cause where the input ends within a message.
 const CUT: u8 = 4;

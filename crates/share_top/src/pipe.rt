@@ -30,15 +30,15 @@ pub struct Piped<B> {
     pub bench: B,
 }
 
-// Whether the letters of TRST count.
-fn uses_trst(setup: &Setup) -> bool
+/// Whether the letters of TRST count.
+pub fn uses_trst(setup: &Setup) -> bool
     ensures { result ≡ uses_trst setup.now }
 {
     setup.version == 2
 }
 
-// Whether the setup needs TRST, and the cable has none.
-fn lacks_trst<B: Bench>(setup: &Setup, bench: &B) -> bool
+/// Whether the setup needs TRST, and the cable has none.
+pub fn lacks_trst<B: Bench>(setup: &Setup, bench: &B) -> bool
     ensures lacks { result ≡ true → (uses_trst setup.now ≡ true) × (B.trst bench.now ≡ false) }
     ensures serves { result ≡ false → uses_trst setup.now ≡ true → B.trst bench.now ≡ true }
 {
@@ -54,8 +54,8 @@ fn counted<B: Bench, I: Source, O: Sink>(bench: &B, input: &I, out: &O)
     let _out = out.faults();
 }
 
-// What always holds of a setup.
-fn sound(setup: &Setup)
+/// What always holds of a setup.
+pub fn sound(setup: &Setup)
     requires { IsWhole setup.now }
     ensures { IsSound setup.now }
 {

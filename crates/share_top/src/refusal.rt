@@ -4,10 +4,10 @@ ghost use Rattle.setup_read.specs.declared.setup.SetupRefusal.TheVariants.{Plain
 ghost use Rattle.share_top.specs.Checks as checks;
 ghost use Rattle.share_top.specs.Checks.{place_text};
 
-use crate::line::{Line, number_line, push_number, push_text, text_line};
 use grant_table::LayoutRefusal;
 use setup_document::Place;
 use setup_read::SetupRefusal;
+use text_lines::{Line, number_line, push_number, push_text, text_line};
 
 /// The status of a refusal: 12 where a device's file is not there, 4 where a load failed, 9 where memory is wanting, and else 3.
 pub fn refusal_status(refusal: SetupRefusal) -> u8

@@ -3,11 +3,11 @@ ghost use Rattle.std.specs.Prelude.{◌≡◌, IfOk, IfErr, OnOk};
 ghost use Rattle.setup_read.specs.Setups.{IsWhole};
 ghost use Rattle.share_top.specs.Setups as setups;
 
-use crate::line::{Line, text_line};
 use crate::refusal::{refusal_line, refusal_status};
 use ports::{LoadFault, Shelf};
 use setup_read::{Setup, SetupRefusal, read_setup};
 use std::alloc::Global;
+use text_lines::{Line, text_line};
 
 /// The most bytes of the setup file that are loaded: one more than it may have.
 const MOST_LOADED: usize = 1_048_577;

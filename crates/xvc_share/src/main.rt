@@ -2,12 +2,14 @@
 #![tactic(auto)]
 
 use chain_model::Chain;
+use mio_wire::MioWire;
 use ports::{FolderShelf, Sink, StdSink, StdSource, write_all};
-use share_top::{RanLocal, local_command};
+use share_top::{Ran, run};
 use std::alloc::Global;
 use std::env;
 use std::io::ErrorKind;
 use std::process::ExitCode;
+use std::sync::Wait;
 
 /// The status where a write failed.
 const WRITE_FAULT: u8 = 5;
@@ -47,25 +49,44 @@ fn tell_no_memory<O: Sink>(out: &mut O) -> u8 {
     }
 }
 
-fn run(rt: HostRuntime, alloc: Global) -> u8 {
+fn run_words<R: Wait>(waits: &R, rt: HostRuntime, alloc: Global) -> u8 {
     let words = words(&rt, alloc);
     let input: Result<HostRuntime, _> = rt.clone();
     let files: Result<HostRuntime, _> = rt.clone();
+    let sockets: Result<HostRuntime, _> = rt.clone();
     let mut out = StdSink::new(rt);
-    let (Ok(words), Ok(input), Ok(files)) = (words, input, files) else {
+    let (Ok(words), Ok(input), Ok(files), Ok(sockets)) = (words, input, files, sockets) else {
+        return tell_no_memory(&mut out);
+    };
+    let Ok(wire) = MioWire::new(sockets, alloc, None) else {
         return tell_no_memory(&mut out);
     };
     let mut shelf = FolderShelf::new(files, alloc);
     let mut input = StdSource::new(input);
-    let RanLocal {
+    let Ran {
         status,
         bench: _,
         out: _,
-    } = local_command(alloc, &words, Chain::empty(), &mut shelf, &mut input, out);
+        wire: _,
+    } = run(
+        waits,
+        alloc,
+        &words,
+        Chain::empty(),
+        &mut shelf,
+        &mut input,
+        out,
+        wire,
+    );
     status
 }
 
 fn main(rt: HostRuntime) -> ExitCode {
     let alloc = rt.alloc();
-    ExitCode::from(run(rt, alloc))
+    let own: Result<HostRuntime, _> = rt.clone();
+    let status = match own {
+        Ok(own) => run_words(&rt, own, alloc),
+        Err(_) => tell_no_memory(&mut StdSink::new(rt)),
+    };
+    ExitCode::from(status)
 }

@@ -1,6 +1,6 @@
 use Rattle.std.proofs.Common.{refl, ◌++◌, ◌∙◌}
 use Rattle.share_top.specs.Checks.{device_head, device_tail}
-use Rattle.share_top.proofs.Printing.{printing_starts, printing_more, printing_fails, printing_last}
+use Rattle.text_lines.proofs.Printing.{printing_starts, printing_more, printing_fails, printing_last}
 use Rattle.share_top.proofs.print.print_device.Goals as goal
 
 pub returns-in_err-put : goal.returns-in_err-put

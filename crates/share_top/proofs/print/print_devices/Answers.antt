@@ -1,7 +1,7 @@
 use Rattle.std.proofs.Common.{◌+◌, ◌∙◌, [], ap, get_or, drop, arith}
 use Rattle.share_top.specs.Checks.{device_line, device_lines}
 use Rattle.share_top.proofs.Lines.{device_lines_more, name_at}
-use Rattle.share_top.proofs.Printing.{printing_fails, printing_more}
+use Rattle.text_lines.proofs.Printing.{printing_fails, printing_more}
 use Rattle.share_top.proofs.print.print_devices.Goals as goal
 
 pub returns-in_err-print_device : goal.returns-in_err-print_device

@@ -1,6 +1,6 @@
 use Rattle.std.proofs.Common.{◌+◌, drop}
 use Rattle.share_top.specs.Checks.{device_lines}
-use Rattle.share_top.proofs.Printing.{Printing}
+use Rattle.text_lines.proofs.Printing.{Printing}
 use Rattle.share_top.proofs.print.print_devices.Given as goal
 
 abbrev pub invariant-loop-place : goal.invariant-loop-place

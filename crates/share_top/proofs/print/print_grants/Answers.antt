@@ -1,7 +1,7 @@
 use Rattle.std.proofs.Common.{◌+◌, ◌∙◌, drop, arith}
 use Rattle.share_top.specs.Checks.{grant_lines}
 use Rattle.share_top.proofs.Lines.{grant_lines_more, line_of_grant}
-use Rattle.share_top.proofs.Printing.{printing_fails, printing_more}
+use Rattle.text_lines.proofs.Printing.{printing_fails, printing_more}
 use Rattle.share_top.proofs.print.print_grants.Goals as goal
 
 pub returns-in_err-put : goal.returns-in_err-put

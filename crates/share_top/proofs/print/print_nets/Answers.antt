@@ -1,7 +1,7 @@
 use Rattle.std.proofs.Common.{◌+◌, ◌∙◌, drop}
 use Rattle.share_top.specs.Checks.{net_lines}
 use Rattle.share_top.proofs.Lines.{net_lines_more}
-use Rattle.share_top.proofs.Printing.{printing_fails, printing_more}
+use Rattle.text_lines.proofs.Printing.{printing_fails, printing_more}
 use Rattle.share_top.proofs.print.print_nets.Goals as goal
 
 pub returns-in_err-put : goal.returns-in_err-put

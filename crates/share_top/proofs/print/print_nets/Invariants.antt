@@ -1,6 +1,6 @@
 use Rattle.std.proofs.Common.{◌+◌, drop}
 use Rattle.share_top.specs.Checks.{net_lines}
-use Rattle.share_top.proofs.Printing.{Printing}
+use Rattle.text_lines.proofs.Printing.{Printing}
 use Rattle.share_top.proofs.print.print_nets.Given as goal
 
 abbrev pub invariant-loop-at : goal.invariant-loop-at

@@ -1,7 +1,7 @@
 use Rattle.std.proofs.Common.{refl, ◌++◌, ap}
 use Rattle.std.specs.Prelude.{codes}
 use Rattle.share_top.specs.Checks.{device_lines, grant_lines, net_lines}
-use Rattle.share_top.proofs.Printing.{printing_starts, printing_more, printing_fails, printing_last}
+use Rattle.text_lines.proofs.Printing.{printing_starts, printing_more, printing_fails, printing_last}
 use Rattle.share_top.proofs.print.print_setup.Goals as goal
 
 pub returns-in_err-print_devices : goal.returns-in_err-print_devices

@@ -9,10 +9,9 @@ use Rattle.std.proofs.lemmas.List.{take-append-le, take_all, append-nil}
 use Rattle.std.proofs.Math.Seq.{take-append_seam, take-append-add}
 use Rattle.ports.specs.declared.PortFault.{PortFault}
 use Rattle.ports.specs.Streams.{AppendsFront}
-use Rattle.share_top.specs.Outcomes.{Grew}
-use Rattle.share_top.specs.Printed.{Prints}
+use Rattle.text_lines.specs.Printed.{Grew, Prints}
 
-appends_both : (x y : List ℕ) (a b c : Option (List ℕ)) → Appends a b x → Appends b c y → Appends a c (x ++ y)
+pub appends_both : (x y : List ℕ) (a b c : Option (List ℕ)) → Appends a b x → Appends b c y → Appends a c (x ++ y)
 appends_both x y None b c h k = tt
 appends_both x y (Some old) None c h k = absurd h
 appends_both x y (Some old) (Some between) None h k = absurd k
@@ -24,10 +23,10 @@ front_first x y a b front = elim (cases_lt front.0 (length x)) [
   | inr ge ↦ (length x, subst (Appends a b) (take_all front.0 x ge ∙ sym (take-append_seam x y)) front.1)
 ]
 
-front_later : (x y : List ℕ) (a b c : Option (List ℕ)) → Appends a b x → AppendsFront b c y → AppendsFront a c (x ++ y)
+pub front_later : (x y : List ℕ) (a b c : Option (List ℕ)) → Appends a b x → AppendsFront b c y → AppendsFront a c (x ++ y)
 front_later x y a b c h front = (length x + front.0, subst (Appends a c) (sym (take-append-add x y front.0)) (appends_both x (take front.0 y) a b c h front.1))
 
-nothing : (a : Option (List ℕ)) → Appends a a []
+pub nothing : (a : Option (List ℕ)) → Appends a a []
 nothing None = tt
 nothing (Some bytes) = sym (append-nil bytes)
 
