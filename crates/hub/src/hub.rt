@@ -14,6 +14,7 @@ ghost use Rattle.plays.specs.Outcomes.{SeatsOpen};
 ghost use Rattle.session_table.specs.Shown.{EachFew, FreshOn, session_end};
 ghost use Rattle.session_table.specs.Tables.{StandsOn, stand_at, reply_at, view_at};
 ghost use Rattle.wire_port.specs.Wires.{WireView};
+ghost use Rattle.hub.specs.Resting.{Rests, RestsBut, names};
 ghost use Rattle.hub.specs.Standing.{EndsFollow, HubStands, FoundNow};
 ghost use Rattle.hub.specs.Served.{KeepsMade, OnlyOpened, OpensIn, ShutsAfter, ShutsFor};
 
@@ -116,6 +117,7 @@ impl<C: Cable> Hub<C> {
         ensures open { OnOk result (Told (W.told wire.new) (SeatsOpen self.new.hub)) }
         ensures shuts { OnOk result (Both (W.told wire.old) (W.told wire.new) (ShutsAfter found self.old.hub self.new.hub.ended)) }
         ensures known { OnOk result (Both (W.told wire.old) (W.told wire.new) OnlyOpened) }
+        ensures rests { OnOk result (Both (W.told wire.old) (W.told wire.new) (λ before now. RestsBut (names found) self.old.hub before → Rests self.new.hub now)) }
         ensures stands { OnOk result ((setting : Setting) (before : Option WireView) → FoundNow found before (W.told wire.old) → HubStands setting self.old.hub (C.chain self.old.cable) before → HubStands setting self.new.hub (C.chain self.new.cable) (W.told wire.new)) }
         ensures ends { OnOk result ((setting : Setting) (before : Option WireView) → FoundNow found before (W.told wire.old) → HubStands setting self.old.hub (C.chain self.old.cable) before → EndsFollow setting before (W.told wire.new) self.new.hub.ended) }
         ensures door { W.door wire.new ≡ W.door wire.old }
@@ -139,6 +141,7 @@ impl<C: Cable> Hub<C> {
         ensures open { OnOk result (Told (W.told wire.new) (SeatsOpen self.new.hub)) }
         ensures shuts { OnOk result (Both (W.told wire.old) (W.told wire.new) (ShutsFor [] self.new.hub.ended)) }
         ensures known { OnOk result (Both (W.told wire.old) (W.told wire.new) OnlyOpened) }
+        ensures rests { OnOk result (Both (W.told wire.old) (W.told wire.new) (λ before now. Rests self.old.hub before → Rests self.new.hub now)) }
         ensures stands { OnOk result ((setting : Setting) → HubStands setting self.old.hub (C.chain self.old.cable) (W.told wire.old) → HubStands setting self.new.hub (C.chain self.new.cable) (W.told wire.new)) }
         ensures ends { OnOk result ((setting : Setting) → HubStands setting self.old.hub (C.chain self.old.cable) (W.told wire.old) → EndsFollow setting (W.told wire.old) (W.told wire.new) self.new.hub.ended) }
         ensures door { W.door wire.new ≡ W.door wire.old }

@@ -167,6 +167,11 @@ abbrev pub EachHasEnded : HubView → HubView → List SessionEnd → Type 0
 EachHasEnded old new [] = Unit {0}
 EachHasEnded old new (ended ∷ more) = HasEndedNow old new ended × EachHasEnded old new more
 
+-- a session that is going is ready where it was in line before, and else as ready as it was
+pub record ReadyAsWent (old new : HubView) (grant : ℕ) : Type 0 where
+  pub went : is_in_line (stand_at old grant) ≡ true → slice_index_or new.ready grant false ≡ true
+  pub stayed : is_in_line (stand_at old grant) ≡ false → slice_index_or new.ready grant false ≡ slice_index_or old.ready grant false
+
 -- a grant's session went on, and those in line that the chain was handed on to; all others are as they were
 pub record WentOn (grant : ℕ) (gone : Bool) (old new : HubView) : Type 0 where
   pub own : is_taken (stand_at new grant) ≡ true → is_leaving (stand_at new grant) ≡ gone
@@ -176,6 +181,7 @@ pub record WentOn (grant : ℕ) (gone : Bool) (old new : HubView) : Type 0 where
   pub ended : new.ended ≡ old.ended ++ ends
   pub each : EachHasEnded old new ends
   pub once : OnceEach (map (λ ended. ended.grant) ends)
+  pub ready : (other : ℕ) → other ≢ grant → stand_at new other ≡ Stand.Going → ReadyAsWent old new other
 
 -- ---- a session begins
 

@@ -9,7 +9,7 @@ ghost use Rattle.chain_model.specs.Chains.{ChainState};
 ghost use Rattle.scan_share.specs.Scans.{IsWhole};
 ghost use Rattle.client_session.specs.declared.Stand.TheVariants.{Free, Going};
 ghost use Rattle.client_session.specs.Private.{opened, received};
-ghost use Rattle.client_session.specs.Sessions.{is_here, is_taken, view_wants};
+ghost use Rattle.client_session.specs.Sessions.{is_here, is_in_line, is_taken, view_wants};
 ghost use Rattle.plays.specs.Plays.{Setting, Play, next_in_line, seat_at, start};
 ghost use Rattle.session_table.specs.Tables.{FollowsOpening, FollowsPlays, KeepsTable, RepliesFronts, StandsOn, WentOn, reply_at, stand_at, view_at, with_given, with_reply};
 ghost use Rattle.session_table.specs.Shown.{EachFew, FreshOn, Settles, is_out, session_end};
@@ -111,7 +111,8 @@ impl<C: Cable> SessionTable<C> {
 
     /// Who goes on next: the first that waits for a chain that nobody holds. Over a cable that tells its chain, nobody does between two calls.
     pub fn next(&self) -> Option<usize>
-        ensures { result ≡ next_in_line self.now.hub.holder self.now.hub.waiting }
+        ensures is { result ≡ next_in_line self.now.hub.holder self.now.hub.waiting }
+        ensures line { self.now.hub.broken ≡ false → (grant : ℕ) → result ≡ Some grant → is_in_line (stand_at self.now.hub grant) ≡ true }
     {
         match &self.slot {
             Slot::Free(desk) => desk.next(),

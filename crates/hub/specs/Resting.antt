@@ -1,0 +1,34 @@
+-- Sessions that rest: none is ready, and the peer of each that does not wait has nothing to bring now, or takes no more.
+use Rattle.std.specs.Prelude.{ℕ, ◌≡◌, ◌≢◌, ◌==◌, Bool, false}
+use Rattle.std.specs.List.{slice_index_or}
+use Rattle.client_session.specs.declared.Stand.{Stand}
+use Rattle.wire_port.specs.Wires.{WireView, Last}
+use Rattle.wire_port.specs.declared.wire.Found.{Found}
+use Rattle.wire_port.specs.declared.wire.Found.TheVariants as found
+use Rattle.plays.specs.Stands.{HubView}
+use Rattle.session_table.specs.Tables.{stand_at}
+use Rattle.hub.specs.Served.{conn_at}
+
+-- where a grant's session is open, does not wait and is not ready: the last answer of its connection was that nothing is there to take, or that not
+-- all could be given
+abbrev pub RestsAt : HubView → WireView → ℕ → Type 0
+RestsAt hub wire grant = stand_at hub grant ≡ Stand.Going → slice_index_or hub.ready grant false ≡ false → wire.last (conn_at hub grant) ≢ Last.Other
+
+-- of every grant
+abbrev pub Rests : HubView → WireView → Type 0
+Rests hub wire = (grant : ℕ) → RestsAt hub wire grant
+
+-- of every other grant
+abbrev pub OthersRest : ℕ → HubView → WireView → Type 0
+OthersRest grant hub wire = (other : ℕ) → other ≢ grant → RestsAt hub wire other
+
+-- of every grant whose session has another connection than this
+abbrev pub RestsBut : (ℕ → Bool) → HubView → WireView → Type 0
+RestsBut but hub wire = (grant : ℕ) → but (conn_at hub grant) ≡ false → RestsAt hub wire grant
+
+-- what was found is this connection
+abbrev pub names : Found → ℕ → Bool
+names (found.Opened conn port) other = conn == other
+names (found.Ready conn) other = conn == other
+names (found.Room conn) other = conn == other
+names _ other = false
