@@ -19,6 +19,7 @@ use Rattle.plays.specs.Plays.{Setting, Play, SeatChange, SessionEnd, after_chang
 use Rattle.plays.specs.Outcomes.{OnceEach}
 use Rattle.plays.specs.Schedule.{went_on}
 use Rattle.plays.specs.Stands.{HubView, SeatView}
+use Rattle.plays.proofs.Serving.{next_is}
 use Rattle.chain_token.specs.Waiting.{IsQueue}
 use Rattle.session_table.specs.declared.Ended.{Ended}
 use Rattle.session_table.specs.declared.seats.Seat.{Seat as Entry}
@@ -286,6 +287,14 @@ module _ {C : Type 0} (now : TableView C) (seats : Seats) (slot : Slot C) (there
       by slots.Out e out b serves = absurd (let q : true ≡ false = out in cc)
       by (Free desk) e out b serves = ((subst (λ x. SlotServes seats x chain trst) e serves).at_desk.each grant (inside_of lt)).fit
       by (slots.Broken broken) e out b serves = absurd (let q : true ≡ false = sym (ap is_broken e) ∙ b in cc)
+
+  -- who goes on next is in line
+  pub next_waits : (desk : Token (ParkedView C) (OpenView C)) → slot ≡ Free desk → (chain : C → Option ChainState) (trst : C → Bool) → TableFits seats slot chain trst
+      → next_in_line (holder desk) (waiting desk) ≡ Some grant → is_in_line (stand_at now.hub grant) ≡ true
+  next_waits desk slot_is chain trst fits next =
+      let at = (subst (λ s. SlotServes seats s chain trst) slot_is fits.serves).at_desk in
+      let among = (next_is (holder desk) (waiting desk) grant next).0 in
+      ap is_in_line (sym stand_is) ∙ sym (at.each grant (at.within grant among)).line ∙ among
 
 -- ---- calls that change what is shown
 
