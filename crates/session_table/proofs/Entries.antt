@@ -32,7 +32,7 @@ use Rattle.session_table.specs.declared.seats.Seat.{Seat}
 use Rattle.session_table.specs.declared.seats.Seats.{Seats}
 use Rattle.session_table.specs.Tables.{StaysSo}
 use Rattle.session_table.specs.Shown.{session_end}
-use Rattle.session_table.specs.AtDesk.{AreAtDesk, EachEndedThere, EndsMore, EntryAtDesk, EntryFits, KeepsSeats, LineWent, MayServe, NotesStop, OneWent, OnlySession, SeatsFit, ended_grants, ends_by, entry, no_entry, session_at, stands_at}
+use Rattle.session_table.specs.AtDesk.{AreAtDesk, EachEndedThere, EndsMore, EntryAtDesk, EntryFits, KeepsSeats, LineWent, MayServe, NotesStop, OneWent, OnlySession, OthersStay, SeatsFit, ended_grants, ends_by, entry, no_entry, session_at, stands_at}
 
 -- ---- entries
 
@@ -298,11 +298,14 @@ module _ (grant : ℕ) (waited : Bool) (stop : Stop) (old mid new : Seats) (only
         tt,
       )
 
+  pub others_stay : OthersStay grant old new
+  others_stay other n = ap (λ (x : Seat). x.session.view) (new_other other n)
+
   -- an event of the grant's session
   pub one_went : (gone : Bool) → stands_at mid grant ≡ stand_after stop gone → grant < length old.list.items → is_taken (stands_at old grant) ≡ true → (stands_at mid grant ≡ Stand.Going → gone ≡ false) → OneWent grant gone old new
   one_went gone stands lt taken here = record {
     own = λ up. ap (λ (x : Seat). is_leaving x.session.view.stand) (new_entry grant) ∙ own stop refl (ap (λ (x : Seat). is_taken x.session.view.stand) (sym (new_entry grant)) ∙ up);
-    others = λ other n. ap (λ (x : Seat). x.session.view) (new_other other n);
+    others = others_stay;
     ends = ends_new gone stands lt taken;
   }
     where

@@ -5,6 +5,7 @@ pub mod Lifting
 pub mod Playing
 pub mod Handing
 pub mod Passing
+pub mod Readying
 pub mod Moved
 pub mod Telling
 pub mod Replied

@@ -9,7 +9,7 @@ use Rattle.plays.specs.Plays.{SessionEnd}
 use Rattle.session_table.specs.declared.seats.Seat.{Seat as Entry}
 use Rattle.session_table.specs.declared.seats.Seats.{Seats}
 use Rattle.session_table.specs.Shown.{session_end}
-use Rattle.session_table.specs.AtDesk.{EachEndedThere, EndsMore, KeepsSeats, LineWent, OneWent, SeatsWent, entry, no_entry, stands_at}
+use Rattle.session_table.specs.AtDesk.{EachEndedThere, EachReady, EndsMore, KeepsSeats, LineWent, OneWent, SeatsWent, entry, no_entry, stands_at}
 
 pub kept_none : (seats : Seats) → KeepsSeats seats seats
 kept_none seats = record { layout = refl; vector = refl; trst = refl; conns = refl; flags = refl }
@@ -77,8 +77,8 @@ line_none seats = record {
 -- ---- one went, and then those in line
 
 module _ (grant : ℕ) (gone : Bool) (old mid new : Seats) (kept : KeepsSeats old mid) (later : LineWent mid new) where
-  pub seats_went : is_taken (stands_at old grant) ≡ true → OneWent grant gone old mid → SeatsWent grant gone old new
-  seats_went taken first = record {
+  pub seats_went : is_taken (stands_at old grant) ≡ true → OneWent grant gone old mid → mid.ready ≡ old.ready → EachReady mid new → SeatsWent grant gone old new
+  seats_went taken first flags ready = record {
     own = λ up. let b = later.line grant up in b.1 ∙ first.own b.0;
     line = λ other n up.
         let b = later.line other up in
@@ -89,6 +89,10 @@ module _ (grant : ℕ) (gone : Bool) (old mid new : Seats) (kept : KeepsSeats ol
       | inl e ↦ subst (λ g. is_taken (stands_at old g) ≡ true) (sym e.1) taken
       | inr n ↦ ap (λ (v : SessionView). is_taken v.stand) (sym (first.others other n.1)) ∙ up
     ]);
+    ready = λ other n going.
+        let now = ready other going in
+        let line : is_in_line (stands_at mid other) ≡ is_in_line (stands_at old other) = ap (λ (v : SessionView). is_in_line v.stand) (first.others other n) in
+        record { went = λ h. now.went (line ∙ h); stayed = λ h. now.stayed (line ∙ h) ∙ ap (λ (v : _). slice_index_or v.items other false) flags };
   }
 
 -- no session that ended is forgotten

@@ -114,6 +114,10 @@ module _ {C : Type 0} (old new : Seats) (before after : Slot C) where
     ended = went.ends.ended;
     each = each_now went.ends.more went.ends.each;
     once = once_back (map session_end old.ended.items) went.ends.more (subst (λ xs. IsQueue (map (λ (s : SessionEnd). s.grant) xs)) went.ends.ended (subst IsQueue (sym (grants_of new.ended.items)) fits.once));
+    ready = λ other n going.
+        let now = went.ready other n (sym (stand_of new after other) ∙ going) in
+        let line : is_in_line (stands_at old other) ≡ is_in_line (stand_at (hub_of old before) other) = ap is_in_line (sym (stand_of old before other)) in
+        record { went = λ h. now.went (line ∙ h); stayed = λ h. now.stayed (line ∙ h) };
   }
     where
       conn_same : (other : ℕ) → (entry new other).conn ≡ (entry old other).conn

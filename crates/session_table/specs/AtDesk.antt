@@ -160,11 +160,24 @@ pub record LineWent (old new : Seats) : Type 0 where
   pub others : (other : ℕ) → is_in_line (stands_at old other) ≡ false → session_at new other ≡ session_at old other
   pub ends : EndsMore old new
 
+-- no other grant's session changed
+abbrev pub OthersStay : ℕ → Seats → Seats → Type 0
+OthersStay grant old new = (other : ℕ) → other ≢ grant → session_at new other ≡ session_at old other
+
 -- a grant's session went on, and no other
 pub record OneWent (grant : ℕ) (gone : Bool) (old new : Seats) : Type 0 where
   pub own : is_taken (stands_at new grant) ≡ true → is_leaving (stands_at new grant) ≡ gone
-  pub others : (other : ℕ) → other ≢ grant → session_at new other ≡ session_at old other
+  pub others : OthersStay grant old new
   pub ends : EndsMore old new
+
+-- a session that is going is ready where it was in line before, and else as ready as it was
+pub record ReadyThere (old new : Seats) (grant : ℕ) : Type 0 where
+  pub went : is_in_line (stands_at old grant) ≡ true → slice_index_or new.ready.items grant false ≡ true
+  pub stayed : is_in_line (stands_at old grant) ≡ false → slice_index_or new.ready.items grant false ≡ slice_index_or old.ready.items grant false
+
+-- each of those
+abbrev pub EachReady : Seats → Seats → Type 0
+EachReady old new = (grant : ℕ) → stands_at new grant ≡ Stand.Going → ReadyThere old new grant
 
 -- ---- what a call sets
 
@@ -250,3 +263,4 @@ pub record SeatsWent (grant : ℕ) (gone : Bool) (old new : Seats) : Type 0 wher
   pub line : (other : ℕ) → other ≢ grant → StaysSo (stands_at old other) (stands_at new other)
   pub others : (other : ℕ) → other ≢ grant → is_in_line (stands_at old other) ≡ false → session_at new other ≡ session_at old other
   pub ends : EndsMore old new
+  pub ready : (other : ℕ) → other ≢ grant → stands_at new other ≡ Stand.Going → ReadyThere old new other

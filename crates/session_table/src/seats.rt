@@ -15,7 +15,7 @@ ghost use Rattle.client_session.specs.Turns.{Turn};
 ghost use Rattle.client_session.specs.Desks.{cable_after, cable_of, cable_then};
 ghost use Rattle.client_session.specs.Calls.{CameOn, ServedBy};
 ghost use Rattle.client_session.specs.Sessions.{RepliedBefore, Shows, is_here, is_in_line, is_leaving, is_taken, stand_after, view_wants};
-ghost use Rattle.session_table.specs.AtDesk.{AreFree, Begins, EachIsFree, KeepsSeats, LineWent, MayServe, NotesStop, NothingElse, OneWent, OnlyReady, OnlySession, Replies, SeatsFit, SeatsWent, SetsReady, ShowsOpened, WentAtDesk, ends_by, entry, joins_by, session_at, stands_at};
+ghost use Rattle.session_table.specs.AtDesk.{AreFree, Begins, EachIsFree, EachReady, KeepsSeats, LineWent, MayServe, NotesStop, NothingElse, OneWent, OnlyReady, OnlySession, OthersStay, Replies, SeatsFit, SeatsWent, SetsReady, ShowsOpened, WentAtDesk, ends_by, entry, joins_by, session_at, stands_at};
 ghost use Rattle.session_table.specs.Going.{AttendsOn, Fronts, GoneOn, HandedOn, MovedOn, PassedOn};
 ghost use Rattle.session_table.specs.Tables.{IsCalm};
 ghost use Rattle.plays.specs.Schedule.{with_ready};
@@ -367,6 +367,7 @@ impl Seats {
         ensures kept { KeepsSeats self.old self.new }
         ensures ready { self.new.ready ≡ self.old.ready }
         ensures went { OnOk result (LineWent self.old self.new) }
+        ensures others { OnOk result (OthersStay grant self.old self.new) }
         ensures played { IfOk result (λ next. (setting : Setting) (given : ℕ → List ℕ) (play : Play) → AttendsOn setting self.old desk given (C.chain (cable_of desk.side)) play → IsCalm play
             → GoneOn setting self.old self.new next given (C.chain (cable_of next.side)) play (go setting grant play)) }
         ensures failed { OnErr result ((setting : Setting) (given : ℕ → List ℕ) (play : Play) → AttendsOn setting self.old desk given (C.chain (cable_of desk.side)) play → Fronts self.new given play) }
@@ -410,6 +411,7 @@ impl Seats {
         ensures may { IfOk result (λ next. MayServe self.new next (C.chain (cable_of next.side)) (C.trst (cable_of next.side))) }
         ensures kept { KeepsSeats self.old self.new }
         ensures went { OnOk result (LineWent self.old self.new) }
+        ensures ready { OnOk result (EachReady self.old self.new) }
         ensures played { IfOk result (λ next. (setting : Setting) (given : ℕ → List ℕ) (play : Play) → AttendsOn setting self.old desk given (C.chain (cable_of desk.side)) play → IsCalm play
             → HandedOn setting self.old self.new next given (C.chain (cable_of next.side)) play 1) }
         ensures failed { OnErr result ((setting : Setting) (given : ℕ → List ℕ) (play : Play) → AttendsOn setting self.old desk given (C.chain (cable_of desk.side)) play → Fronts self.new given play) }
@@ -428,6 +430,7 @@ impl Seats {
         ensures may { IfOk result (λ next. MayServe self.new next (C.chain (cable_of next.side)) (C.trst (cable_of next.side))) }
         ensures kept { KeepsSeats self.old self.new }
         ensures went { OnOk result (LineWent self.old self.new) }
+        ensures ready { OnOk result (EachReady self.old self.new) }
         ensures played { IfOk result (λ next. (setting : Setting) (given : ℕ → List ℕ) (play : Play) → AttendsOn setting self.old desk given (C.chain (cable_of desk.side)) play → IsCalm play
             → HandedOn setting self.old self.new next given (C.chain (cable_of next.side)) play (all_steps_left play.seats)) }
         ensures failed { OnErr result ((setting : Setting) (given : ℕ → List ℕ) (play : Play) → AttendsOn setting self.old desk given (C.chain (cable_of desk.side)) play → IsCalm play → Fronts self.new given play) }
@@ -461,6 +464,7 @@ impl Seats {
         ensures may { IfOk result (λ next. MayServe self.new next (C.chain (cable_of next.side)) (C.trst (cable_of next.side))) }
         ensures kept { KeepsSeats self.old self.new }
         ensures went { OnOk result (LineWent self.old self.new) }
+        ensures ready { OnOk result (EachReady self.old self.new) }
         ensures played { IfOk result (λ next. (setting : Setting) (given : ℕ → List ℕ) (play : Play) → AttendsOn setting self.old desk given (C.chain (cable_of desk.side)) play → IsCalm play
             → PassedOn setting self.old self.new next given (C.chain (cable_of next.side)) play earlier) }
         ensures failed { OnErr result ((setting : Setting) (given : ℕ → List ℕ) (play : Play) → AttendsOn setting self.old desk given (C.chain (cable_of desk.side)) play → IsCalm play → Fronts self.new given play) }

@@ -16,7 +16,7 @@ returns-clause-kept g c = kept_both c.args.self.now c.drop_peer.new.self c.pass_
 
 pub returns-clause-went : goal.returns-clause-went
 returns-clause-went g c =
-    seats_went c.args.grant true c.args.self.now c.drop_peer.new.self c.pass_on.new.self c.in_ok-left.ensures.kept c.in_ok-desk.ensures.went (here_taken (stands_at c.args.self.now c.args.grant) c.requires.here) c.in_ok-left.ensures.went
+    seats_went c.args.grant true c.args.self.now c.drop_peer.new.self c.pass_on.new.self c.in_ok-left.ensures.kept c.in_ok-desk.ensures.went (here_taken (stands_at c.args.self.now c.args.grant) c.requires.here) c.in_ok-left.ensures.went c.in_ok-left.ensures.ready c.in_ok-desk.ensures.ready
 
 pub returns-clause-played : goal.returns-clause-played
 returns-clause-played g c = λ setting given play att calm none.

@@ -5,6 +5,7 @@ use Rattle.session_table.specs.Going.{HandedOn}
 use Rattle.session_table.proofs.Handing.{fronts_back, handed_end, handed_long, handed_more}
 use Rattle.session_table.proofs.Passing.{kept_both, line_both}
 use Rattle.session_table.proofs.Playing.{on_err}
+use Rattle.session_table.proofs.Readying.{ready_both}
 use Rattle.session_table.proofs.seats.Seats.hand_on.Goals as goal
 
 pub loop-preserved : goal.loop-preserved
@@ -13,6 +14,7 @@ loop-preserved g c = record {
   may = c.in_ok-desk.ensures.may;
   kept = kept_both c.args.self.now c.loop.self c.hand_to.new.self c.loop.invariant.kept c.in_ok-desk.ensures.kept;
   went = line_both c.args.self.now c.loop.self c.hand_to.new.self c.loop.invariant.kept c.in_ok-desk.ensures.went c.loop.invariant.went;
+  ready = ready_both c.args.self.now c.loop.self c.hand_to.new.self c.loop.invariant.went c.loop.invariant.ready c.in_ok-desk.ensures.went c.in_ok-desk.ensures.ready;
   mark = c.in_ok-desk.ensures.mark ∙ c.loop.invariant.mark;
   trst = c.in_ok-desk.ensures.trst ∙ c.loop.invariant.trst;
   faults = c.in_ok-desk.ensures.cause.kept ∙ c.loop.invariant.faults;

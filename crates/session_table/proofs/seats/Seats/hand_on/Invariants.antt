@@ -2,7 +2,7 @@ use Rattle.std.proofs.Common.{◌≡◌, ◌≤◌, ◌-◌, ◌^◌, ℕ, List}
 use Rattle.client_session.specs.Desks.{cable_of}
 use Rattle.plays.specs.Plays.{Play, Setting}
 use Rattle.session_table.specs.Tables.{IsCalm}
-use Rattle.session_table.specs.AtDesk.{KeepsSeats, LineWent, MayServe}
+use Rattle.session_table.specs.AtDesk.{EachReady, KeepsSeats, LineWent, MayServe}
 use Rattle.session_table.specs.Going.{AttendsOn, HandedOn}
 use Rattle.session_table.proofs.seats.Seats.hand_on.Given as goal
 
@@ -12,6 +12,7 @@ invariant-loop g l = record {
   may : MayServe l.self l.desk (g.C.Cable.chain (cable_of l.desk.side)) (g.C.Cable.trst (cable_of l.desk.side));
   kept : KeepsSeats l.fn.self l.self;
   went : LineWent l.fn.self l.self;
+  ready : EachReady l.fn.self l.self;
   mark : g.C.Cable.mark (cable_of l.desk.side) ≡ g.C.Cable.mark (cable_of l.fn.desk.side);
   trst : g.C.Cable.trst (cable_of l.desk.side) ≡ g.C.Cable.trst (cable_of l.fn.desk.side);
   faults : g.C.Cable.fault_count (cable_of l.desk.side) ≡ g.C.Cable.fault_count (cable_of l.fn.desk.side);

@@ -3,6 +3,7 @@ use Rattle.client_session.specs.Desks.{cable_of}
 use Rattle.session_table.proofs.Handing.{ready_kept, ready_may, ready_went}
 use Rattle.session_table.proofs.Moved.{passed}
 use Rattle.session_table.proofs.Passing.{ends_longer}
+use Rattle.session_table.proofs.Readying.{ready_rested}
 use Rattle.session_table.proofs.seats.Seats.pass_on.Goals as goal
 
 pub rest_ended-requires : goal.rest_ended-requires
@@ -16,6 +17,9 @@ returns-clause-kept g c = ready_kept c.hand_on.new.self c.rest_ended.new.self c.
 
 pub returns-clause-went : goal.returns-clause-went
 returns-clause-went g c = ready_went c.hand_on.new.self c.rest_ended.new.self c.rest_ended.ensures.only c.args.self.now c.in_ok-desk.ensures.went
+
+pub returns-clause-ready : goal.returns-clause-ready
+returns-clause-ready g c = ready_rested c.args.self.now c.hand_on.new.self c.rest_ended.new.self c.args.earlier c.in_ok-desk.ensures.may.fits c.rest_ended.ensures.only c.rest_ended.ensures.ready c.in_ok-desk.ensures.ready
 
 pub returns-clause-played : goal.returns-clause-played
 returns-clause-played g c = λ setting given play att calm.

@@ -2,7 +2,7 @@ use Rattle.std.proofs.Common.{false}
 use Rattle.client_session.specs.Sessions.{is_leaving}
 use Rattle.client_session.specs.Desks.{cable_of}
 use Rattle.session_table.specs.AtDesk.{stands_at}
-use Rattle.session_table.proofs.Entries.{in_line_taken, kept_noted, kept_seats, line_went, may_new, room_still}
+use Rattle.session_table.proofs.Entries.{in_line_taken, kept_noted, kept_seats, line_went, may_new, others_stay, room_still}
 use Rattle.session_table.proofs.Playing.{on_err, resume_failed, resume_played}
 use Rattle.session_table.proofs.seats.Seats.resume.Goals as goal
 
@@ -17,6 +17,9 @@ returns-clause-kept g c = kept_noted c.args.grant false c.in_ok-stop.stop c.args
 
 pub returns-clause-went : goal.returns-clause-went
 returns-clause-went g c = line_went c.args.grant false c.in_ok-stop.stop c.args.self.now c.resume_session.new.self c.note.new.self c.in_ok-stop.ensures.went.only c.note.ensures c.in_ok-stop.ensures.stands c.requires.grant c.requires.waits c.in_ok-stop.ensures.here
+
+pub returns-clause-others : goal.returns-clause-others
+returns-clause-others g c = others_stay c.args.grant false c.in_ok-stop.stop c.args.self.now c.resume_session.new.self c.note.new.self c.in_ok-stop.ensures.went.only c.note.ensures
 
 pub returns-clause-may : goal.returns-clause-may
 returns-clause-may g c =

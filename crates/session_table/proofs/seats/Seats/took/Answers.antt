@@ -16,7 +16,7 @@ returns-clause-kept g c = kept_both c.args.self.now c.feed.new.self c.pass_on.ne
 
 pub returns-clause-went : goal.returns-clause-went
 returns-clause-went g c =
-    seats_went c.args.grant false c.args.self.now c.feed.new.self c.pass_on.new.self c.in_ok-fed.ensures.kept c.in_ok-desk.ensures.went (ap is_taken c.requires.going) c.in_ok-fed.ensures.went
+    seats_went c.args.grant false c.args.self.now c.feed.new.self c.pass_on.new.self c.in_ok-fed.ensures.kept c.in_ok-desk.ensures.went (ap is_taken c.requires.going) c.in_ok-fed.ensures.went c.in_ok-fed.ensures.ready c.in_ok-desk.ensures.ready
 
 pub returns-clause-played : goal.returns-clause-played
 returns-clause-played g c = λ setting given play att calm none.
