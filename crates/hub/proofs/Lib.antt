@@ -14,3 +14,4 @@ pub mod Giving
 pub mod Openings
 pub mod Events
 pub mod Ends
+pub mod AtRest

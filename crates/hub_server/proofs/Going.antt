@@ -18,7 +18,7 @@ use Rattle.hub.specs.Standing.{HubStands, EndsFollow}
 use Rattle.hub_server.specs.declared.ServeFault.{ServeFault}
 use Rattle.hub_server.specs.declared.ServeFault.TheVariants.{Poll, Cable, Write}
 use Rattle.hub_server.specs.Told.{ended_line, ended_lines}
-use Rattle.hub_server.specs.Serving.{IsSound, KeepsDoor, Goes, GoesFront, ServesSo}
+use Rattle.hub_server.specs.Serving.{IsSound, KeepsDoor, KeepsResting, Goes, GoesFront, ServesSo}
 
 -- between two turns of the loop: the hub may be served further
 pub record Onward (old new : HubView) (wire : Option WireView) (door door' : DoorView) (over : Bool) : Type 0 where
@@ -42,13 +42,29 @@ ends_then setting (Some a) None c first more h k = absurd h
 ends_then setting (Some a) (Some b) None first more h k = absurd k
 ends_then setting (Some a) (Some b) (Some c) first more h k = k ∙ ap (λ ends. ends ++ more) h ∙ append_assoc (played setting a.steps).ends first more
 
+rests_still : (hub : HubView) (wire : Option WireView) → KeepsResting hub hub wire wire
+rests_still hub None = tt
+rests_still hub (Some wire) = λ rests. rests
+
+rests_then : (hub hub' hub'' : HubView) (a b c : Option WireView) → KeepsResting hub hub' a b → KeepsResting hub' hub'' b c → KeepsResting hub hub'' a c
+rests_then hub hub' hub'' None None None h k = tt
+rests_then hub hub' hub'' None None (Some c) h k = absurd k
+rests_then hub hub' hub'' None (Some b) c h k = absurd h
+rests_then hub hub' hub'' (Some a) None c h k = absurd h
+rests_then hub hub' hub'' (Some a) (Some b) None h k = absurd k
+rests_then hub hub' hub'' (Some a) (Some b) (Some c) h k = λ rests. k (h rests)
+
 -- nothing was done
-goes_none : (hub : HubView) (chain : Option ChainState) (wire : Option WireView) (sent : Option (List ℕ)) → Goes hub hub chain chain wire wire sent sent
+pub goes_none : (hub : HubView) (chain : Option ChainState) (wire : Option WireView) (sent : Option (List ℕ)) → Goes hub hub chain chain wire wire sent sent
 goes_none hub chain wire sent = record {
   ends = [];
   told = nothing sent;
   goes = λ setting h. record { stands = h; ends_are = ends_none setting hub chain wire h };
+  rests = rests_still hub wire;
 }
+
+pub goes_still : (hub : HubView) (chain : Option ChainState) (wire wire' : Option WireView) (sent : Option (List ℕ)) → wire' ≡ wire → Goes hub hub chain chain wire wire' sent sent
+goes_still hub chain wire wire' sent same = subst (λ w. Goes hub hub chain chain wire w sent sent) (sym same) (goes_none hub chain wire sent)
 
 module _ (hub hub' hub'' : HubView) (chain chain' chain'' : Option ChainState) (wire wire' wire'' : Option WireView) (sent sent' sent'' : Option (List ℕ)) (first : Goes hub hub' chain chain' wire wire' sent sent') where
   pub goes_then : Goes hub' hub'' chain' chain'' wire' wire'' sent' sent'' → Goes hub hub'' chain chain'' wire wire'' sent sent''
@@ -59,6 +75,7 @@ module _ (hub hub' hub'' : HubView) (chain chain' chain'' : Option ChainState) (
       stands = (more.goes setting (first.goes setting h).stands).stands;
       ends_are = ends_then setting wire wire' wire'' first.ends more.ends (first.goes setting h).ends_are (more.goes setting (first.goes setting h).stands).ends_are;
     };
+    rests = rests_then hub hub' hub'' wire wire' wire'' first.rests more.rests;
   }
 
   front_then : GoesFront hub' hub'' chain' chain'' wire' wire'' sent' sent'' → GoesFront hub hub'' chain chain'' wire wire'' sent sent''
@@ -91,6 +108,10 @@ is_fault (Err e) fault is = ap (λ e. Err e) is
 -- the cable failed before anything else was done
 pub cable_stops : {A : Type 0} (result : Result A ServeFault) (hub hub' : HubView) (chain chain' : Option ChainState) (wire wire' : Option WireView) (sent : Option (List ℕ)) → IsErrAnd result (λ e. e ≡ Cable) → ServesSo result hub hub' chain chain' wire wire' sent sent
 cable_stops result hub hub' chain chain' wire wire' sent is = subst (λ r. ServesSo r hub hub' chain chain' wire wire' sent sent) (sym (is_fault result Cable is)) (record { hub = hub; chain = chain; wire = wire; goes = goes_none hub chain wire sent })
+
+-- the wire failed before anything was done
+pub poll_stops : {A : Type 0} (result : Result A ServeFault) (hub : HubView) (chain : Option ChainState) (wire wire' : Option WireView) (sent : Option (List ℕ)) → IsErrAnd result (λ e. e ≡ Poll) → wire' ≡ wire → ServesSo result hub hub chain chain wire wire' sent sent
+poll_stops result hub chain wire wire' sent is same = subst (λ r. ServesSo r hub hub chain chain wire wire' sent sent) (sym (is_fault result Poll is)) (goes_still hub chain wire wire' sent same)
 
 -- a call after others that went well failed
 pub fault_then : (A : Type 0) {B : Type 0} (fault : ServeFault) (result : Result B ServeFault) (hub hub' hub'' : HubView) (chain chain' chain'' : Option ChainState) (wire wire' wire'' : Option WireView) (sent sent' sent'' : Option (List ℕ))

@@ -17,6 +17,7 @@ use Rattle.plays.specs.Stands.{HubView}
 use Rattle.plays.specs.Outcomes.{SeatsOpen}
 use Rattle.hub.specs.Served.{OnlyTellsOpened}
 use Rattle.hub.specs.Standing.{HubStands, EndsFollow}
+use Rattle.hub.specs.Resting.{Rests}
 use Rattle.hub_server.specs.declared.ServeFault.{ServeFault}
 use Rattle.hub_server.specs.declared.ServeFault.TheVariants.{Poll, Cable, Write}
 use Rattle.hub_server.specs.Told.{ended_lines, serving_line}
@@ -49,11 +50,16 @@ pub record GoesOn (ends : List SessionEnd) (setting : Setting) (hub : HubView) (
 abbrev pub GoesOnFrom : (ends : List SessionEnd) → (old new : HubView) (old_chain new_chain : Option ChainState) (old_wire new_wire : Option WireView) → Type 0
 GoesOnFrom ends old new old_chain new_chain old_wire new_wire = (setting : Setting) → HubStands setting old old_chain old_wire → GoesOn ends setting new new_chain old_wire new_wire
 
+-- where all rested before, all rest after
+abbrev pub KeepsResting : (old new : HubView) (old_wire new_wire : Option WireView) → Type 0
+KeepsResting old new old_wire new_wire = Both old_wire new_wire (λ before now. Rests old before → Rests new now)
+
 -- sessions ended, and a line of each went out
 pub record Goes (old new : HubView) (old_chain new_chain : Option ChainState) (old_wire new_wire : Option WireView) (sent sent' : Option (List ℕ)) : Type 0 where
   pub ends : List SessionEnd
   pub told : Appends sent sent' (ended_lines ends)
   pub goes : GoesOnFrom ends old new old_chain new_chain old_wire new_wire
+  pub rests : KeepsResting old new old_wire new_wire
 
 -- the same, of whose lines a front went out
 pub record GoesFront (old new : HubView) (old_chain new_chain : Option ChainState) (old_wire new_wire : Option WireView) (sent sent' : Option (List ℕ)) : Type 0 where

@@ -8,11 +8,11 @@ use Rattle.client_session.specs.Seats.{Seat, EndedSession}
 use Rattle.client_session.specs.Private.{Replies, past_replies, is_live}
 use Rattle.wire_port.specs.Steps.{has_gone, opens_once}
 use Rattle.wire_port.specs.Wires.{WireView, Last}
-use Rattle.wire_port.specs.Wires.Last.{NotNow, Short}
+use Rattle.wire_port.specs.Wires.Last.{NotNow, Short, Other}
 use Rattle.plays.specs.Plays.{Setting, Play, seat_at, no_seat, is_waiting, is_among, played}
 use Rattle.plays.specs.Alone.{conns_of, events, private, replies_in, replies_to, IsPrefix}
 use Rattle.plays.specs.Stands.{SeatView, HubView, GivenSo, EndedSo, EachEndedSo, LiveSo, SessionSo, SeatStands, SeatsStand, Stands}
-use Rattle.plays.specs.Given.{TookAll, GivenAsAlone, SharedAsAlone}
+use Rattle.plays.specs.Given.{TookAll, GivenAsAlone, SharedAsAlone, IsAtRest, AllGivenAsAlone}
 use Rattle.plays.proofs.Lists.{false_true, past_end, among-append}
 use Rattle.plays.proofs.Isolation.{as_alone}
 
@@ -126,3 +126,26 @@ module _ (setting : Setting) (hub : HubView) (chain : ChainState) (wire : WireVi
 
   pub shared_as_alone : SharedAsAlone setting chain wire
   shared_as_alone = record { each = given_as_alone; nobody = stands.elsewhere; holds = stands.holds }
+
+-- ---- where nothing is left to do for the server
+
+not_now : (last : Last) → last ≢ Other → last ≢ Short → last ≡ NotNow
+not_now NotNow other short = refl
+not_now Short other short = absurd (short refl)
+not_now Other other short = absurd (other refl)
+
+-- a peer that is there and takes more took what there was
+took_at_rest : (wire : WireView) (seat : Seat) (conn : ℕ) → (seat.going ≡ true → wire.last seat.conn ≢ Other) → wire.last conn ≢ Short → TookAll (is_live conn seat) wire conn
+took_at_rest wire seat conn rests short = by seat.going refl (nat_eq seat.conn conn) refl
+  where
+    by : (going : Bool) → seat.going ≡ going → (same : Bool) → nat_eq seat.conn conn ≡ same → TookAll (going && same) wire conn
+    by false e same f = short
+    by true e false f = short
+    by true e true f = not_now (wire.last conn) (subst (λ c. wire.last c ≢ Other) (eqb-true seat.conn conn f) (rests e)) short
+
+pub all_given_as_alone : (setting : Setting) (chain : ChainState) (wire : WireView) → SharedAsAlone setting chain wire → IsAtRest setting wire → AllGivenAsAlone setting wire
+all_given_as_alone setting chain wire shared rests = record {
+  rests = rests;
+  all = λ grant conn among waits here short.
+      (shared.each grant).whole conn among waits here (took_at_rest wire (seat_at (played setting wire.steps) grant) conn (λ going. rests grant going waits) short);
+}

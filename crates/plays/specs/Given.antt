@@ -5,7 +5,7 @@ use Rattle.client_session.specs.Seats.{Seat}
 use Rattle.client_session.specs.Private.{is_live}
 use Rattle.wire_port.specs.Steps.{has_gone}
 use Rattle.wire_port.specs.Wires.{WireView}
-use Rattle.wire_port.specs.Wires.Last.{NotNow, Short}
+use Rattle.wire_port.specs.Wires.Last.{NotNow, Short, Other}
 use Rattle.plays.specs.Plays.{Setting, seat_at, is_waiting, is_among, played}
 use Rattle.plays.specs.Alone.{conns_of, events, private, replies_to, IsPrefix, Holds}
 use Rattle.plays.specs.Stands.{NoneElseGiven}
@@ -31,3 +31,17 @@ pub record SharedAsAlone (setting : Setting) (chain : ChainState) (wire : WireVi
   pub each : (grant : ℕ) → GivenAsAlone setting wire grant
   pub nobody : NoneElseGiven wire (played setting wire.steps)
   pub holds : Holds setting chain (played setting wire.steps)
+
+-- ---- where nothing is left to do for the server
+
+-- of each session that is going and does not wait: the last answer on its connection was that nothing is there to take, or that not all could be given
+abbrev pub IsAtRest : Setting → WireView → Type 0
+IsAtRest setting wire = (grant : ℕ) → (seat_at (played setting wire.steps) grant).going ≡ true → is_waiting (played setting wire.steps) grant ≡ false
+    → wire.last (seat_at (played setting wire.steps) grant).conn ≢ Other
+
+-- each peer was given all that its grant's private chain replies to it, unless the grant waits, or the peer is gone or takes no more
+pub record AllGivenAsAlone (setting : Setting) (wire : WireView) : Type 0 where
+  pub rests : IsAtRest setting wire
+  pub all : (grant conn : ℕ) → is_among conn (conns_of (seat_at (played setting wire.steps) grant)) ≡ true → is_waiting (played setting wire.steps) grant ≡ false
+      → has_gone conn wire.steps ≡ false → wire.last conn ≢ Short
+      → wire.given conn ≡ replies_to (private setting grant (events (played setting wire.steps) grant wire.steps)) conn

@@ -11,10 +11,6 @@ use Rattle.plays.specs.Plays.{Setting, Play, SessionEnd, seat_at, is_among, is_w
 use Rattle.plays.specs.Stands.{SeatView, HubView}
 use Rattle.plays.specs.Schedule.{Replay, is_drop, told, serve_conn, admitted_or_shut}
 
--- each session that is going and neither waits nor is ready has nothing to take and can give nothing now, but for some connections
-abbrev pub RestsBut : (ℕ → Bool) → WireView → List Bool → Play → Type 0
-RestsBut but wire ready play = (grant : ℕ) → (seat_at play grant).going ≡ true → is_waiting play grant ≡ false → slice_index_or ready grant false ≡ false → but (seat_at play grant).conn ≡ false → wire.last (seat_at play grant).conn ≢ Other
-
 -- a session of the connection is among those that ended otherwise than by a drop of their peer
 abbrev pub ends_shut : ℕ → List SessionEnd → Bool
 ends_shut conn ends = list_any (λ ended. (ended.conn == conn) && not (is_drop ended.end)) ends

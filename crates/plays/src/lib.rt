@@ -8,7 +8,7 @@ ghost use Rattle.plays.specs.Marks.{EachWaitsOneCaptureOfAnother, JoinsAreMarked
 ghost use Rattle.chain_model.specs.Chains.{ChainState};
 ghost use Rattle.wire_port.specs.Steps.{opens_once};
 ghost use Rattle.wire_port.specs.Wires.{WireView};
-ghost use Rattle.plays.specs.Given.{SharedAsAlone};
+ghost use Rattle.plays.specs.Given.{SharedAsAlone, IsAtRest, AllGivenAsAlone};
 ghost use Rattle.plays.specs.Stands.{HubView, Stands};
 ghost use Rattle.plays.specs.Laws.{EachAsAlone, EachWaitsBehind, EachScanIsHeld, EachSeatIsOver, EachReplayIsPlayed, EachReplayRests, EachReplyIsShort};
 
@@ -74,4 +74,10 @@ pub fn replies_are_short()
 /// given anything; and the shared devices hold what the private devices hold.
 pub fn what_stands_is_shared_as_alone()
     ensures { (setting : Setting) (hub : HubView) (chain : ChainState) (wire : WireView) → opens_once wire.steps ≡ true → Stands setting hub chain wire (played setting wire.steps) → SharedAsAlone setting chain wire }
+{}
+
+/// Where peers are given what they are alone, and nothing is left to do for the server, each peer was given all that its grant's private chain replies
+/// to it, unless the grant waits, or the peer is gone or takes no more.
+pub fn at_rest_all_is_given()
+    ensures { (setting : Setting) (chain : ChainState) (wire : WireView) → SharedAsAlone setting chain wire → IsAtRest setting wire → AllGivenAsAlone setting wire }
 {}

@@ -1,6 +1,7 @@
 -- From a hub that was served to what `serve` comes to.
 use Rattle.std.proofs.Common.{◌≡◌, ◌++◌, ℕ, Bool, true, false, List, [], refl, ap, sym, subst, ◌∙◌, inl, inr, Some, None, Ok, Err}
 use Rattle.std.proofs.lemmas.List.{append-nil}
+use Rattle.std.specs.List.{list_any}
 use Rattle.std.specs.declared.option.Option.{Option}
 use Rattle.std.specs.declared.result.Result.{Result}
 use Rattle.std.specs.Io.KnownBytes.{Appends}
@@ -9,16 +10,18 @@ use Rattle.chain_model.specs.Chains.{ChainState}
 use Rattle.client_session.specs.declared.Stand.TheVariants as stand
 use Rattle.hub.specs.Served.{OnlyTellsOpened}
 use Rattle.hub.specs.Standing.{EndsFollow, HubStands}
+use Rattle.hub.specs.Resting.{Rests}
+use Rattle.hub.proofs.AtRest.{at_rest}
 use Rattle.hub.proofs.Polling.{free_seats, new_tells}
 use Rattle.hub.proofs.Standing.{stands_for_play}
 use Rattle.hub_server.specs.Serving as serving
-use Rattle.hub_server.specs.Serving.{Goes, GoesFront, GoesOn, GoesOnFrom, NotWritten, ServedSo, StaysSo, ports_of}
+use Rattle.hub_server.specs.Serving.{Goes, GoesFront, GoesOn, GoesOnFrom, KeepsResting, NotWritten, ServedSo, StaysSo, ports_of}
 use Rattle.hub_server.specs.Told.{ended_lines, serving_line}
 use Rattle.hub_server.specs.declared.ServeFault.{ServeFault}
 use Rattle.hub_server.specs.declared.ServeFault.TheVariants as fault
 use Rattle.plays.specs.Plays.{Setting, SessionEnd, played}
 use Rattle.plays.specs.Stands.{HubView, Stands}
-use Rattle.plays.proofs.Given.{shared_as_alone}
+use Rattle.plays.proofs.Given.{all_given_as_alone, shared_as_alone}
 use Rattle.ports.specs.Shelves.{NamedBytes}
 use Rattle.scan_share.specs.Scans.{Starts}
 use Rattle.session_table.specs.Shown.{FreshOn}
@@ -29,7 +32,7 @@ use Rattle.text_lines.proofs.Printing.{appends_both, front_later}
 use Rattle.wire_port.specs.Calls.{IsWire}
 use Rattle.wire_port.specs.Wires.{DoorView, WireView}
 use Rattle.share_top.specs.Pipes.{uses_trst, whole_chain}
-use Rattle.share_top.specs.Serves.{CanServe, FaultedSo, HasNoSteps, Listens, Outside, ServeCauses, ServeFaults, ServedOn, Serves, ServesSetup, WasCutShort, WasServed, WhereTold, setting_of}
+use Rattle.share_top.specs.Serves.{AllGivenOn, CanServe, FaultedSo, HasNoSteps, Listens, Outside, ServeCauses, ServeFaults, ServedOn, Serves, ServesSetup, WasCutShort, WasServed, WhereTold, setting_of}
 use Rattle.share_top.specs.Sessions.{IsSound}
 use Rattle.share_top.specs.declared.serve_outcome.ServeOutcome.{ServeOutcome}
 use Rattle.share_top.specs.declared.serve_outcome.ServeOutcome.TheVariants.{NoSetup, NoTrst, Memory, Faulted, Ended}
@@ -48,6 +51,11 @@ told_first (Some wire) none = new_tells wire none
 
 pub sound_first : (hub : HubView) (wire : Option WireView) → hub.broken ≡ false → ((grant : ℕ) → (stand_at hub grant ≡ stand.Free) × (reply_at hub grant ≡ [])) → Told wire HasNoSteps → serving.IsSound hub wire
 sound_first hub wire fit free none = record { fit = fit; seats = free_seats hub free wire; tells = told_first wire none }
+
+-- no session is open that could not rest
+pub rests_first : (hub : HubView) (wire : Option WireView) → ((grant : ℕ) → (stand_at hub grant ≡ stand.Free) × (reply_at hub grant ≡ [])) → Told wire (Rests hub)
+rests_first hub None free = tt
+rests_first hub (Some wire) free = λ grant going ready. absurd (let is : stand.Free ≡ stand.Going = sym (free grant).0 ∙ going in cc)
 
 -- over a chain at rest, and a wire that told no step yet, the hub stands for the play of no steps
 module _ (setup : Setup) (whole : IsWholeSetup setup) (sound : IsSound setup) (trst : Bool) (trst_is : trst ≡ uses_trst setup) (hub : HubView) where
@@ -79,6 +87,28 @@ served_on setup ends old new None chain' None wire' none stands goes = tt
 served_on setup ends old new None chain' (Some wire) wire' none stands goes = tt
 served_on setup ends old new (Some chain) chain' None wire' none stands goes = tt
 served_on setup ends old new (Some chain) chain' (Some wire) wire' none stands goes = served_there setup ends new wire chain' wire' none (goes (setting_of setup) stands)
+
+-- where no session is ready and all rest, each peer was given all
+all_there : (setup : Setup) (ends : List SessionEnd) (hub : HubView) (before : WireView) (chain : Option ChainState) (wire : Option WireView) → list_any (λ ready. ready) hub.ready ≡ false → HasNoSteps before
+    → GoesOn ends (setting_of setup) hub chain (Some before) wire → Told wire (Rests hub) → AllGivenOn setup wire
+all_there setup ends hub before None wire idle none on rests = absurd on.stands.stands
+all_there setup ends hub before (Some chain) None idle none on rests = absurd on.stands.stands
+all_there setup ends hub before (Some chain) (Some wire) idle none on rests =
+    all_given_as_alone (setting_of setup) chain wire (served_there setup ends hub before (Some chain) (Some wire) none on).alone (at_rest (setting_of setup) hub chain wire on.stands rests idle)
+
+rested : (old new : HubView) (a b : Option WireView) → KeepsResting old new a b → Told a (Rests old) → Told b (Rests new)
+rested old new None None keeps rests = tt
+rested old new None (Some now) keeps rests = absurd keeps
+rested old new (Some before) None keeps rests = tt
+rested old new (Some before) (Some now) keeps rests = keeps rests
+
+all_on : (setup : Setup) (ends : List SessionEnd) (old new : HubView) (chain chain' : Option ChainState) (wire wire' : Option WireView) → list_any (λ ready. ready) new.ready ≡ false → Told wire HasNoSteps → Told wire (Rests old)
+    → WhereTold chain wire (HubStands (setting_of setup) old chain wire) → GoesOnFrom ends old new chain chain' wire wire' → KeepsResting old new wire wire' → WhereTold chain wire (AllGivenOn setup wire')
+all_on setup ends old new None chain' None wire' idle none rests stands goes keeps = tt
+all_on setup ends old new None chain' (Some wire) wire' idle none rests stands goes keeps = tt
+all_on setup ends old new (Some chain) chain' None wire' idle none rests stands goes keeps = tt
+all_on setup ends old new (Some chain) chain' (Some wire) wire' idle none rests stands goes keeps =
+    all_there setup ends new wire chain' wire' idle none (goes (setting_of setup) stands) (rested old new (Some wire) wire' keeps rests)
 
 -- where nothing was done, no session ended
 no_ends : (setting : Setting) (hub : HubView) (chain : Option ChainState) (wire : Option WireView) → HubStands setting hub chain wire → EndsFollow setting wire wire []
@@ -122,12 +152,18 @@ module _ (setup : Setup) (old new : HubView) (before after : Outside) (ports : a
     served = served_on setup [] old new before.chain after.chain before.wire after.wire none stands (nothing_done old new before.chain after.chain before.wire after.wire was.stays);
   }
 
-  ended_up : (done : Unit {0}) (up : Bool) → after.door.up ≡ up → ServedSo (Ok done) old new before.chain after.chain before.wire after.wire before.sent after.sent up → WasServed setup before after
-  ended_up done true up was = was_served up was.between was.line was.serves
-  ended_up done false up was = absurd (let q : Ok done ≡ Err fault.Poll = was.answer in cc)
+  ended_up : (done : Unit {0}) (up : Bool) → after.door.up ≡ up → Told before.wire (Rests old) → list_any (λ ready. ready) new.ready ≡ false → after.door.over ≡ true
+      → ServedSo (Ok done) old new before.chain after.chain before.wire after.wire before.sent after.sent up → ServesSetup Ended setup before after
+  ended_up done true up rests idle over was = record {
+    served = was_served up was.between was.line was.serves;
+    all = all_on setup was.serves.ends old new before.chain after.chain before.wire after.wire idle none rests stands was.serves.goes was.serves.rests;
+    over = over;
+  }
+  ended_up done false up rests idle over was = absurd (let q : Ok done ≡ Err fault.Poll = was.answer in cc)
 
-  pub ended_so : (done : Unit {0}) → ServedSo (Ok done) old new before.chain after.chain before.wire after.wire before.sent after.sent after.door.up → after.door.over ≡ true → ServesSetup Ended setup before after
-  ended_so done was over = (ended_up done after.door.up refl was, over)
+  pub ended_so : (done : Unit {0}) → Told before.wire (Rests old) → list_any (λ ready. ready) new.ready ≡ false → after.door.over ≡ true
+      → ServedSo (Ok done) old new before.chain after.chain before.wire after.wire before.sent after.sent after.door.up → ServesSetup Ended setup before after
+  ended_so done rests idle over was = ended_up done after.door.up refl rests idle over was
 
   faulted_up : (why : ServeFault) (up : Bool) → after.door.up ≡ up → ServedSo {A = Unit {0}} (Err why) old new before.chain after.chain before.wire after.wire before.sent after.sent up → FaultedSo why setup before after
   faulted_up fault.Poll true up was = inr (was_served up was.between was.line was.serves)
@@ -157,8 +193,10 @@ module _ {C : Type 0} (chain : C → Option ChainState) (setup : Setup) (old new
   abbrev at_end : C → Outside
   at_end cable = record { chain = chain cable; wire = wire'; door = door'; sent = sent' }
 
-  pub ended_over : (done : Unit {0}) → ServedSo (Ok done) old.hub new.hub (chain old.cable) (chain new.cable) wire wire' sent sent' door'.up → door'.over ≡ true → ServesSetup Ended setup at_start (at_end bench)
-  ended_over done was over = subst (λ cable. ServesSetup Ended setup at_start (at_end cable)) (sym same) (ended_so setup old.hub new.hub at_start (at_end new.cable) (ports ∙ ap ports_of layout) none stands done was over)
+  pub ended_over : (done : Unit {0}) → Told wire (Rests old.hub) → list_any (λ ready. ready) new.hub.ready ≡ false → door'.over ≡ true
+      → ServedSo (Ok done) old.hub new.hub (chain old.cable) (chain new.cable) wire wire' sent sent' door'.up → ServesSetup Ended setup at_start (at_end bench)
+  ended_over done rests idle over was = subst (λ cable. ServesSetup Ended setup at_start (at_end cable)) (sym same)
+      (ended_so setup old.hub new.hub at_start (at_end new.cable) (ports ∙ ap ports_of layout) none stands done rests idle over was)
 
   pub faulted_over : (why : ServeFault) → ServedSo {A = Unit {0}} (Err why) old.hub new.hub (chain old.cable) (chain new.cable) wire wire' sent sent' door'.up → ServesSetup (Faulted why) setup at_start (at_end bench)
   faulted_over why was = subst (λ cable. ServesSetup (Faulted why) setup at_start (at_end cable)) (sym same) (faulted_so setup old.hub new.hub at_start (at_end new.cable) (ports ∙ ap ports_of layout) none stands why was)
@@ -205,7 +243,7 @@ module _ (R : ChainState → ChainState → Type 0) (before between : Option Cha
   serves_before NoTrst was = absurd was
   serves_before Memory was = record { wire = was.wire; door = was.door; sent = was.sent }
   serves_before (Faulted why) was = faulted_before why was
-  serves_before Ended was = (was_before was.0, was.1)
+  serves_before Ended was = record { served = was_before was.served; all = where_before (AllGivenOn setup new.wire) R before between wire first was.all; over = was.over }
 
 -- ---- what `serve` comes to
 

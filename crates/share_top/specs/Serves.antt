@@ -11,7 +11,7 @@ use Rattle.chain_model.specs.Chains.{ChainState, Placed}
 use Rattle.scan_share.specs.Scans.{IsWithin}
 use Rattle.wire_port.specs.Wires.{WireView, DoorView}
 use Rattle.plays.specs.Plays.{Setting, SessionEnd, played}
-use Rattle.plays.specs.Given.{SharedAsAlone}
+use Rattle.plays.specs.Given.{SharedAsAlone, AllGivenAsAlone}
 use Rattle.hub_server.specs.Serving.{ports_of}
 use Rattle.hub_server.specs.Told.{ended_lines, serving_line}
 use Rattle.hub_server.specs.declared.ServeFault.{ServeFault}
@@ -40,6 +40,12 @@ pub record ServedAlone (setup : Setup) (ends : List SessionEnd) (chain : ChainSt
 abbrev pub ServedOn : Setup → List SessionEnd → Option ChainState → Option WireView → Type 0
 ServedOn setup ends (Some chain) (Some wire) = ServedAlone setup ends chain wire
 ServedOn setup ends _ _ = ⊥
+
+-- the wire tells its steps, and nothing is left to do for the server: each peer was given all that it is given alone, unless its grant waits, or it is
+-- gone or takes no more
+abbrev pub AllGivenOn : Setup → Option WireView → Type 0
+AllGivenOn setup (Some wire) = AllGivenAsAlone (setting_of setup) wire
+AllGivenOn setup _ = ⊥
 
 -- this holds where the bench and the wire told what they hold
 abbrev pub WhereTold : Option ChainState → Option WireView → Type 0 → Type 0
@@ -111,11 +117,17 @@ pub record CanServe (files : Option (List NamedBytes)) (name : List ℕ) (trst :
   pub said : SetupAt setup files name
   pub trst_is : uses_trst setup ≡ true → trst ≡ true
 
+-- the wire came to its end, and all was done that was to be done
+pub record ServedToTheEnd (setup : Setup) (old new : Outside) : Type 0 where
+  pub served : WasServed setup old new
+  pub all : WhereTold old.chain old.wire (AllGivenOn setup new.wire)
+  pub over : new.door.over ≡ true
+
 -- of a setup, by its outcome
 abbrev pub ServesSetup : ServeOutcome → Setup → Outside → Outside → Type 0
 ServesSetup Memory setup old new = IsUnserved old new
 ServesSetup (Faulted why) setup old new = FaultedSo why setup old new
-ServesSetup Ended setup old new = WasServed setup old new × (new.door.over ≡ true)
+ServesSetup Ended setup old new = ServedToTheEnd setup old new
 ServesSetup _ setup old new = ⊥
 
 -- of the files, by its outcome

@@ -2,6 +2,7 @@
 ghost use Rattle.std.specs.Prelude.{◌≡◌, ℕ, [], true};
 ghost use Rattle.base_types.specs.Tellings.{Told};
 ghost use Rattle.chain_model.specs.Cables.{empty_chain};
+ghost use Rattle.hub.specs.Resting.{Rests};
 ghost use Rattle.hub.specs.Standing.{HubStands};
 ghost use Rattle.hub_server.specs.Serving as serving;
 ghost use Rattle.scan_share.specs.Scans.{Starts};
@@ -41,6 +42,7 @@ fn serve_to_end<R: Wait, B: Bench, W: Poller, O: Sink>(
     requires sound { serving.IsSound hub.hub (W.told wire.old) }
     requires once { (W.door wire.old).ports ≡ [] }
     requires unstepped { Told (W.told wire.old) HasNoSteps }
+    requires rests { Told (W.told wire.old) (Rests hub.hub) }
     ensures ran { (setup : Setup) → hub.hub.layout ≡ setup.layout → WhereTold (B.chain hub.cable) (W.told wire.old) (HubStands (setting_of setup) hub.hub (B.chain hub.cable) (W.told wire.old))
         → ServesSetup result.outcome setup (record { chain = B.chain hub.cable; wire = W.told wire.old; door = W.door wire.old; sent = O.sent out.old }) (record { chain = B.chain result.bench; wire = W.told wire.new; door = W.door wire.new; sent = O.sent out.new }) }
     ensures mark { B.mark result.bench ≡ B.mark hub.cable }

@@ -1,10 +1,13 @@
 use Rattle.std.proofs.Common.{subst}
 use Rattle.share_top.specs.Serves.{ServeCauses, ServesSetup}
-use Rattle.share_top.proofs.ServeLaws.{sound_first, stands_over}
+use Rattle.share_top.proofs.ServeLaws.{rests_first, sound_first, stands_over}
 use Rattle.share_top.proofs.serve.serve_parked.Goals as goal
 
 pub serve_to_end-requires-clause-sound : goal.serve_to_end-requires-clause-sound
 serve_to_end-requires-clause-sound g c = sound_first c.in-Ok.hub.hub (g.W.Wire.told c.args.wire.now) c.in-Ok.ensures.none.4 c.in-Ok.ensures.free c.requires.unstepped
+
+pub serve_to_end-requires-clause-rests : goal.serve_to_end-requires-clause-rests
+serve_to_end-requires-clause-rests g c = rests_first c.in-Ok.hub.hub (g.W.Wire.told c.args.wire.now) c.in-Ok.ensures.free
 
 pub returns-in-Ok-clause-ran : goal.returns-in-Ok-clause-ran
 returns-in-Ok-clause-ran g c =
