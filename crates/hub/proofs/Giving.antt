@@ -26,7 +26,7 @@ use Rattle.session_table.specs.Tables.{SeatShown, StandsOn, TableStands, TableVi
 use Rattle.hub.specs.Served.{AreWhole, AreCalm, ConnsAreOpen, IsInUse, SameSessions, conn_at, ready_as}
 use Rattle.hub.specs.Standing.{EachIsPast, FollowsEvent, GoneNow, IsAttended, IsGoneNow, IsPast, KeepsPlay, PeerGiven, StandsBut, StandsOnBut}
 use Rattle.hub.proofs.AfterCalls.{here_is_open, here_open, reply_here, reply_same}
-use Rattle.hub.proofs.OnTheWire.{same_or}
+use Rattle.hub.proofs.OnTheWire.{last_other, same_or}
 use Rattle.hub.proofs.Tables.{stands_on_apart}
 
 -- ---- what a step keeps of one connection
@@ -188,11 +188,8 @@ told_given setting old new gone grant bytes (Some chain) before now whole taken 
 
 -- ---- the answers of a give
 
-last_own : (conn : ℕ) (now : Last) (last : ℕ → Last) → with_last conn now last conn ≡ now
+pub last_own : (conn : ℕ) (now : Last) (last : ℕ → Last) → with_last conn now last conn ≡ now
 last_own conn now last = rw (eq-eqb conn conn refl) refl
-
-pub last_other : (conn : ℕ) (now : Last) (last : ℕ → Last) (other : ℕ) → other ≢ conn → with_last conn now last other ≡ last other
-last_other conn now last other ne = rw (not_eq other conn ne) refl
 
 wire_own : (conn : ℕ) (bytes : List ℕ) (given : ℕ → List ℕ) → c.with_given conn bytes given conn ≡ given conn ++ bytes
 wire_own conn bytes given = rw (eq-eqb conn conn refl) refl

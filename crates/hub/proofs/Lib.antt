@@ -15,3 +15,4 @@ pub mod Openings
 pub mod Events
 pub mod Ends
 pub mod AtRest
+pub mod Resting

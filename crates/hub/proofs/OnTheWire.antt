@@ -17,8 +17,8 @@ use Rattle.client_session.specs.Sessions.{is_taken}
 use Rattle.wire_port.specs.Steps.{Step, opens, shuts, has_gone, is_gone_step}
 use Rattle.wire_port.specs.Steps.Step.{Opened, Took, Gone, Shut}
 use Rattle.wire_port.specs.Offers.{Answer}
-use Rattle.wire_port.specs.Wires.{WireView}
-use Rattle.wire_port.specs.Calls.{IsOpen, CanBeShut, after_give, after_take, after_shut}
+use Rattle.wire_port.specs.Wires.{WireView, Last}
+use Rattle.wire_port.specs.Calls.{IsOpen, CanBeShut, after_give, after_take, after_shut, with_last}
 use Rattle.plays.specs.Plays.{SessionEnd, is_among}
 use Rattle.plays.specs.Stands.{HubView}
 use Rattle.plays.proofs.Lists.{not_eq, false_true}
@@ -57,12 +57,20 @@ record Apart (conn : ℕ) (step : Step) : Type 0 where
   shut : shuts conn (step ∷ []) ≡ 0
   gone : is_gone_step conn step ≡ false
 
-only_snoc : (conn : ℕ) (step : Step) (old new : WireView) → ((other : ℕ) → other ≢ conn → Apart other step) → new.steps ≡ old.steps ++ step ∷ [] → OnlyOf conn old new
-only_snoc conn step old new apart is = record {
+-- the last answers of all connections but this are as they were
+abbrev LastsStay : ℕ → WireView → WireView → Type 0
+LastsStay conn old new = (other : ℕ) → other ≢ conn → new.last other ≡ old.last other
+
+pub last_other : (conn : ℕ) (now : Last) (last : ℕ → Last) (other : ℕ) → other ≢ conn → with_last conn now last other ≡ last other
+last_other conn now last other ne = rw (not_eq other conn ne) refl
+
+only_snoc : (conn : ℕ) (step : Step) (old new : WireView) → ((other : ℕ) → other ≢ conn → Apart other step) → new.steps ≡ old.steps ++ step ∷ [] → LastsStay conn old new → OnlyOf conn old new
+only_snoc conn step old new apart is stays = record {
   kept = λ before. ap (list_any (opens conn)) is ∙ list_any-append (opens conn) old.steps (step ∷ []) ∙ rw before refl;
   opened = λ other ne. ap (list_any (opens other)) is ∙ list_any-append (opens other) old.steps (step ∷ []) ∙ rw ((apart other ne).opened) (or_false (list_any (opens other) old.steps));
   shut = λ other ne. ap (shuts other) is ∙ shuts-snoc other old.steps step ∙ ap (λ n. shuts other old.steps + n) (apart other ne).shut ∙ plus_zero (shuts other old.steps);
   gone = λ other ne. ap (has_gone other) is ∙ list_any-append (is_gone_step other) old.steps (step ∷ []) ∙ rw ((apart other ne).gone) (or_false (has_gone other old.steps));
+  last = stays;
 }
   where
     plus_zero : (n : ℕ) → n + 0 ≡ n
@@ -77,12 +85,13 @@ apart_gone conn other ne = record { opened = refl; shut = refl; gone = not_eq ot
 apart_shut : (conn other : ℕ) → other ≢ conn → Apart other (Shut conn)
 apart_shut conn other ne = record { opened = refl; shut = rw (not_eq other conn ne) refl; gone = refl }
 
-pub only_same : (conn : ℕ) (old new : WireView) → new.steps ≡ old.steps → OnlyOf conn old new
-only_same conn old new is = record {
+pub only_same : (conn : ℕ) (old new : WireView) → new.steps ≡ old.steps → LastsStay conn old new → OnlyOf conn old new
+only_same conn old new is stays = record {
   kept = λ before. ap (list_any (opens conn)) is ∙ before;
   opened = λ other ne. ap (list_any (opens other)) is;
   shut = λ other ne. ap (shuts other) is;
   gone = λ other ne. ap (has_gone other) is;
+  last = stays;
 }
 
 pub only_then : (conn : ℕ) (old between new : WireView) → OnlyOf conn old between → OnlyOf conn between new → OnlyOf conn old new
@@ -91,20 +100,21 @@ only_then conn old between new one two = record {
   opened = λ other ne. two.opened other ne ∙ one.opened other ne;
   shut = λ other ne. two.shut other ne ∙ one.shut other ne;
   gone = λ other ne. two.gone other ne ∙ one.gone other ne;
+  last = λ other ne. two.last other ne ∙ one.last other ne;
 }
 
 pub only_given : (conn whole : ℕ) (answer : Answer) (old : WireView) → OnlyOf conn old (after_give conn whole answer old)
-only_given conn whole (Answer.Bytes bytes) old = only_same conn old _ (append-nil old.steps)
-only_given conn whole Answer.NotNow old = only_same conn old _ (append-nil old.steps)
-only_given conn whole Answer.Gone old = only_snoc conn (Gone conn) old _ (apart_gone conn) refl
+only_given conn whole (Answer.Bytes bytes) old = only_same conn old _ (append-nil old.steps) (last_other conn _ old.last)
+only_given conn whole Answer.NotNow old = only_same conn old _ (append-nil old.steps) (last_other conn _ old.last)
+only_given conn whole Answer.Gone old = only_snoc conn (Gone conn) old _ (apart_gone conn) refl (last_other conn _ old.last)
 
 pub only_taken : (conn : ℕ) (answer : Answer) (old : WireView) → OnlyOf conn old (after_take conn answer old)
-only_taken conn (Answer.Bytes bytes) old = only_snoc conn (Took conn bytes) old _ (apart_took conn bytes) refl
-only_taken conn Answer.NotNow old = only_same conn old _ (append-nil old.steps)
-only_taken conn Answer.Gone old = only_snoc conn (Gone conn) old _ (apart_gone conn) refl
+only_taken conn (Answer.Bytes bytes) old = only_snoc conn (Took conn bytes) old _ (apart_took conn bytes) refl (last_other conn _ old.last)
+only_taken conn Answer.NotNow old = only_same conn old _ (append-nil old.steps) (last_other conn _ old.last)
+only_taken conn Answer.Gone old = only_snoc conn (Gone conn) old _ (apart_gone conn) refl (last_other conn _ old.last)
 
 pub only_shut : (conn : ℕ) (old : WireView) → OnlyOf conn old (after_shut conn old)
-only_shut conn old = only_snoc conn (Shut conn) old _ (apart_shut conn) refl
+only_shut conn old = only_snoc conn (Shut conn) old _ (apart_shut conn) refl (λ other ne. refl)
 
 -- ---- the connection itself
 
@@ -138,6 +148,12 @@ both_by None (Some y) p r f = r
 both_by (Some x) None p r f = r
 both_by (Some x) (Some y) p r f = f x y p r
 
+pub both_map : {X : Type 0} {R S : X → X → Type 0} (a b : Option X) → Both a b R → ((old new : X) → R old new → S old new) → Both a b S
+both_map None None r f = tt
+both_map None (Some y) r f = r
+both_map (Some x) None r f = r
+both_map (Some x) (Some y) r f = f x y r
+
 pub told_map : {X : Type 0} {P Q : X → Type 0} (a : Option X) → Told a P → ((x : X) → P x → Q x) → Told a Q
 told_map None p f = tt
 told_map (Some x) p f = f x p
@@ -164,7 +180,7 @@ both_then conn = both_joined (OnlyOf conn) (OnlyOf conn) (OnlyOf conn) (only_the
 
 pub both_same : (conn : ℕ) (a : Option WireView) → Both a a (OnlyOf conn)
 both_same conn None = tt
-both_same conn (Some old) = only_same conn old old refl
+both_same conn (Some old) = only_same conn old old refl (λ other ne. refl)
 
 -- ---- connections in use
 
@@ -283,12 +299,9 @@ pub flag_other : (gone : List Bool) (grant other : ℕ) → other ≢ grant → 
 flag_other gone grant other ne = get_or-set_other gone grant other true false ne
 
 drop_told : (hub : HubView) (gone : List Bool) (grant conn : ℕ) (old new : WireView) → grant < length gone → conn ≡ conn_at hub grant → is_taken (stand_at hub grant) ≡ true
-    → new.steps ≡ old.steps ++ Gone conn ∷ [] → ConnsAreOpen hub gone [] old → ConnsAreOpen hub (slice_set gone grant true) [] new
-drop_told hub gone grant conn old new lt conn_is taken is conns = record { each = λ other used. by other used (same_or other grant); once = conns.once }
+    → new.steps ≡ old.steps ++ Gone conn ∷ [] → OnlyOf conn old new → ConnsAreOpen hub gone [] old → ConnsAreOpen hub (slice_set gone grant true) [] new
+drop_told hub gone grant conn old new lt conn_is taken is only conns = record { each = λ other used. by other used (same_or other grant); once = conns.once }
   where
-    only : OnlyOf conn old new
-    only = only_snoc conn (Gone conn) old new (apart_gone conn) is
-
     mine : ConnIsOpen old (conn_at hub grant) (is_gone gone grant)
     mine = conns.each grant (inl taken)
 
@@ -315,13 +328,13 @@ pub give_lost : (hub : HubView) (gone : List Bool) (grant conn whole : ℕ) (a b
     → Told a (ConnsAreOpen hub gone []) → Both a b (λ old new. new ≡ after_give conn whole Answer.Gone old) → Told b (ConnsAreOpen hub (slice_set gone grant true) [])
 give_lost hub gone grant conn whole a None lt is taken conns r = tt
 give_lost hub gone grant conn whole None (Some new) lt is taken conns r = absurd r
-give_lost hub gone grant conn whole (Some old) (Some new) lt is taken conns r = drop_told hub gone grant conn old new lt is taken (ap (λ w. w.steps) r) conns
+give_lost hub gone grant conn whole (Some old) (Some new) lt is taken conns r = drop_told hub gone grant conn old new lt is taken (ap (λ w. w.steps) r) (subst (OnlyOf conn old) (sym r) (only_given conn whole Answer.Gone old)) conns
 
 pub take_lost : (hub : HubView) (gone : List Bool) (grant conn : ℕ) (a b : Option WireView) → grant < length gone → conn ≡ conn_at hub grant → is_taken (stand_at hub grant) ≡ true
     → Told a (ConnsAreOpen hub gone []) → Both a b (λ old new. new ≡ after_take conn Answer.Gone old) → Told b (ConnsAreOpen hub (slice_set gone grant true) [])
 take_lost hub gone grant conn a None lt is taken conns r = tt
 take_lost hub gone grant conn None (Some new) lt is taken conns r = absurd r
-take_lost hub gone grant conn (Some old) (Some new) lt is taken conns r = drop_told hub gone grant conn old new lt is taken (ap (λ w. w.steps) r) conns
+take_lost hub gone grant conn (Some old) (Some new) lt is taken conns r = drop_told hub gone grant conn old new lt is taken (ap (λ w. w.steps) r) (subst (OnlyOf conn old) (sym r) (only_taken conn Answer.Gone old)) conns
 
 -- ---- steps of connections that opened before
 

@@ -34,8 +34,8 @@ use Rattle.session_table.specs.Tables.{FollowsOpening, StandsOn, TableStands, Ta
 use Rattle.session_table.proofs.Opened.{opened_play, other_opened, own_opened}
 use Rattle.hub.specs.Served.{AreCalm, AreWhole, HasBegun, IsInUse, admitted_at, conn_at, where_free}
 use Rattle.hub.specs.Standing.{EachIsPast, FollowsEvent, FoundNow, HubStands, IsAttended, KeepsPlay, PeerGiven, StandsBut, StandsOnBut, opens_none}
-use Rattle.hub.proofs.Giving.{attended_kept, conn_among, given_other, given_own, going, keeps_forgot, last_other, past_kept, peer_kept}
-use Rattle.hub.proofs.OnTheWire.{same_or, shuts-snoc}
+use Rattle.hub.proofs.Giving.{attended_kept, conn_among, given_other, given_own, going, keeps_forgot, past_kept, peer_kept}
+use Rattle.hub.proofs.OnTheWire.{last_other, same_or, shuts-snoc}
 use Rattle.hub.proofs.Places.{granted_below}
 use Rattle.hub.proofs.Polling.{free_seats}
 use Rattle.hub.proofs.Standing.{polled}

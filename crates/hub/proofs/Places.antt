@@ -10,7 +10,7 @@ use Rattle.plays.specs.Stands.{HubView}
 use Rattle.session_table.specs.Tables.{stand_at}
 use Rattle.hub.specs.Served.{admitted_at, where_free}
 
-some_none : {A B : Type 0} (a : A) → Some a ≡ None → B
+pub some_none : {A B : Type 0} (a : A) → Some a ≡ None → B
 some_none a is = absurd (let q : Some a ≡ None = is in cc)
 
 none_before : {A B : Type 0} (f : A → B) (o : Option A) → option_map f o ≡ None → o ≡ None
@@ -66,6 +66,28 @@ place_below test (x ∷ xs) at is = by (test x) (λ n. place_below test xs n) is
     by : (b : Bool) → ((n : ℕ) → first_place test xs ≡ Some n → n < length xs) → cond b (Some 0) (option_map suc (first_place test xs)) ≡ Some at → at < suc (length xs)
     by true each is = let same : 0 ≡ at = some_same 0 at is in omega arith
     by false each is = under (first_place test xs) each is
+
+-- what stands at the first place passes, and where there is none nothing passes
+pub place_passes : {A : Type 0} (test : A → Bool) (xs : List A) (at : ℕ) (d : A) → first_place test xs ≡ Some at → test (slice_index_or xs at d) ≡ true
+place_passes test [] at d is = some_none at (sym is)
+place_passes test (x ∷ xs) at d is = by (test x) refl (λ n. place_passes test xs n d) is
+  where
+    under : (o : Option ℕ) → ((n : ℕ) → o ≡ Some n → test (slice_index_or xs n d) ≡ true) → option_map suc o ≡ Some at → test (slice_index_or (x ∷ xs) at d) ≡ true
+    under None each is = some_none at (sym is)
+    under (Some n) each is = subst (λ place. test (slice_index_or (x ∷ xs) place d) ≡ true) (some_same (suc n) at is) (each n refl)
+
+    by : (b : Bool) → test x ≡ b → ((n : ℕ) → first_place test xs ≡ Some n → test (slice_index_or xs n d) ≡ true) → cond b (Some 0) (option_map suc (first_place test xs)) ≡ Some at → test (slice_index_or (x ∷ xs) at d) ≡ true
+    by true passes each is = subst (λ place. test (slice_index_or (x ∷ xs) place d) ≡ true) (some_same 0 at is) passes
+    by false passes each is = under (first_place test xs) each is
+
+pub place_fails : {A : Type 0} (test : A → Bool) (xs : List A) (at : ℕ) (d : A) → test d ≡ false → first_place test xs ≡ None → test (slice_index_or xs at d) ≡ false
+place_fails test [] at d is none = is
+place_fails test (x ∷ xs) at d is none = by at (test x) refl none (λ place later. place_fails test xs place d is later)
+  where
+    by : (place : ℕ) (b : Bool) → test x ≡ b → cond b (Some 0) (option_map suc (first_place test xs)) ≡ None → ((place : ℕ) → first_place test xs ≡ None → test (slice_index_or xs place d) ≡ false) → test (slice_index_or (x ∷ xs) place d) ≡ false
+    by place true passes none each = some_none 0 none
+    by zero false fails none each = fails
+    by (suc place) false fails none each = each place (none_before suc (first_place test xs) none)
 
 pub granted_below : (layout : LayoutShape) (port grant : ℕ) → grant_of layout port ≡ Some grant → grant < length layout.grants
 granted_below layout port grant is = place_below (λ shape. shape.port == port) layout.grants grant is

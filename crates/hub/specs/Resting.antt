@@ -26,9 +26,27 @@ OthersRest grant hub wire = (other : ℕ) → other ≢ grant → RestsAt hub wi
 abbrev pub RestsBut : (ℕ → Bool) → HubView → WireView → Type 0
 RestsBut but hub wire = (grant : ℕ) → but (conn_at hub grant) ≡ false → RestsAt hub wire grant
 
+-- where a grant's session is open and does not wait: the last answer of its connection was one of these two, be it ready or not
+pub record HasNoMore (hub : HubView) (grant : ℕ) (wire : WireView) : Type 0 where
+  pub last : stand_at hub grant ≡ Stand.Going → wire.last (conn_at hub grant) ≢ Last.Other
+
 -- what was found is this connection
 abbrev pub names : Found → ℕ → Bool
 names (found.Opened conn port) other = conn == other
 names (found.Ready conn) other = conn == other
 names (found.Room conn) other = conn == other
 names _ other = false
+
+-- ---- what calls keep
+
+-- each grant that rested rests
+pub record KeepsRest (old new : HubView) (before now : WireView) : Type 0 where
+  pub each : (grant : ℕ) → RestsAt old before grant → RestsAt new now grant
+
+-- where all other grants rested, they rest
+pub record OthersStay (grant : ℕ) (old new : HubView) (before now : WireView) : Type 0 where
+  pub others : OthersRest grant old before → OthersRest grant new now
+
+-- where all other grants rested, all rest
+pub record ComesToRest (grant : ℕ) (old new : HubView) (before now : WireView) : Type 0 where
+  pub all : OthersRest grant old before → Rests new now

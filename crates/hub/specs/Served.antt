@@ -85,12 +85,13 @@ pub record ConnsAreOpen (hub : HubView) (gone : List Bool) (left : List SessionE
   pub each : (grant : ℕ) → IsInUse hub left grant → ConnIsOpen wire (conn_at hub grant) (is_gone gone grant)
   pub once : (one other : ℕ) → IsInUse hub left one → IsInUse hub left other → conn_at hub one ≡ conn_at hub other → one ≡ other
 
--- the steps that were told touch this connection alone; where it had opened, that is told still
+-- the calls that were told touch this connection alone; where it had opened, that is told still
 pub record OnlyOf (conn : ℕ) (old new : WireView) : Type 0 where
   pub kept : list_any (opens conn) old.steps ≡ true → list_any (opens conn) new.steps ≡ true
   pub opened : (other : ℕ) → other ≢ conn → list_any (opens other) new.steps ≡ list_any (opens other) old.steps
   pub shut : (other : ℕ) → other ≢ conn → shuts other new.steps ≡ shuts other old.steps
   pub gone : (other : ℕ) → other ≢ conn → has_gone other new.steps ≡ has_gone other old.steps
+  pub last : (other : ℕ) → other ≢ conn → new.last other ≡ old.last other
 
 -- the steps that were told are of connections that opened before; that these opened is told still
 pub record OnlyOpened (old new : WireView) : Type 0 where

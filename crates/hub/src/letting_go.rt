@@ -10,6 +10,7 @@ ghost use Rattle.hub.specs.Standing.{LastGave, LastGaveShut, StandsOnBut, EndsFo
 ghost use Rattle.wire_port.specs.Wires.{WireView};
 ghost use Rattle.plays.specs.Plays.{Setting, SessionEnd};
 ghost use Rattle.hub.specs.Served.{HasShut, ShutsFor, AreWhole, AreFlagged, AreLeft, ConnIsOpen, ConnsAreOpen, OnlyOf, OnlyOpened, grants_of, is_gone, quieted, ready_as, settled, with_seats};
+ghost use Rattle.hub.specs.Resting.{KeepsRest};
 
 use crate::sessions::Sessions;
 use chain_model::Cable;
@@ -142,6 +143,7 @@ impl<C: Cable> Sessions<C> {
         ensures faults { W.fault_count wire.new ≡ W.fault_count wire.old }
         ensures shuts { Both (W.told wire.old) (W.told wire.new) (ShutsFor [] (drop earlier self.old.table.hub.ended)) }
         ensures known { Both (W.told wire.old) (W.told wire.new) OnlyOpened }
+        ensures rests { Both (W.told wire.old) (W.told wire.new) (KeepsRest self.old.table.hub self.new.table.hub) }
         ensures stands { (setting : Setting) → StandsOnBut setting (drop earlier self.old.table.hub.ended) self.old.table.hub (C.chain self.old.table.cable) (W.told wire.old) → StandsOnBut setting [] self.new.table.hub (C.chain self.new.table.cable) (W.told wire.new) }
         ensures ends { (setting : Setting) → StandsOnBut setting (drop earlier self.old.table.hub.ended) self.old.table.hub (C.chain self.old.table.cable) (W.told wire.old) → EndsFollow setting (W.told wire.old) (W.told wire.new) [] }
     {
@@ -164,6 +166,7 @@ impl<C: Cable> Sessions<C> {
         ensures faults { W.fault_count wire.new ≡ W.fault_count wire.old }
         ensures shuts { Both (W.told wire.old) (W.told wire.new) (ShutsFor [] (drop earlier self.old.table.hub.ended)) }
         ensures known { Both (W.told wire.old) (W.told wire.new) OnlyOpened }
+        ensures rests { Both (W.told wire.old) (W.told wire.new) (KeepsRest self.old.table.hub self.new.table.hub) }
         ensures stands { (setting : Setting) → AreFlagged self.old.table.hub self.old.gone.items → StandsOnBut setting (drop earlier self.old.table.hub.ended) self.old.table.hub (C.chain self.old.table.cable) (W.told wire.old) → StandsOnBut setting [] self.new.table.hub (C.chain self.new.table.cable) (W.told wire.new) }
         ensures ends { (setting : Setting) → StandsOnBut setting (drop earlier self.old.table.hub.ended) self.old.table.hub (C.chain self.old.table.cable) (W.told wire.old) → EndsFollow setting (W.told wire.old) (W.told wire.new) [] }
     {

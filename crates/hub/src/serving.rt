@@ -1,6 +1,6 @@
 // One session is served once.
 ghost use Rattle.std.specs.Prelude.{◌≡◌, ◌≢◌, ◌≤◌, ◌<◌, ◌+◌, ℕ, [], ◌∷◌, true, false, not, length, map, take, drop, slice_set, IfOk, OnOk, OnErr};
-ghost use Rattle.std.specs.List.{list_any};
+ghost use Rattle.std.specs.List.{list_any, slice_index_or};
 ghost use Rattle.std.specs.declared.option.Option.{Option};
 ghost use Rattle.std.specs.declared.option.Option.TheVariants.{None, Some};
 ghost use Rattle.base_types.specs.Counts.{HasCause};
@@ -21,6 +21,7 @@ ghost use Rattle.wire_port.specs.Calls.{after_give};
 ghost use Rattle.plays.specs.Plays.{Setting, SessionEnd};
 ghost use Rattle.grant_table.specs.Layouts.{grant_of};
 ghost use Rattle.hub.specs.Served.{HasBegun, HasShut, OpensIn, OpensNow, ShutsAfter, ShutsFor, admitted_at, serves_conn, AreWhole, AreCalm, AreFlagged, AreLeft, ConnIsOpen, ConnsAreOpen, KeepsMade, OnlyOf, OnlyOpened, SameSessions, conn_at, grants_of, is_gone, next_of, quieted, ready_as, settled, with_seats};
+ghost use Rattle.hub.specs.Resting.{ComesToRest, HasNoMore, OthersStay};
 
 use crate::HubFault;
 use crate::sessions::Sessions;
@@ -50,6 +51,8 @@ impl<C: Cable> Sessions<C> {
         ensures cause { HasCause (C.fault_count self.old.table.cable) (C.fault_count self.new.table.cable) result }
         ensures shuts { OnOk result (Both (W.told wire.old) (W.told wire.new) (ShutsFor self.old.table.hub.ended self.new.table.hub.ended)) }
         ensures known { OnOk result (Both (W.told wire.old) (W.told wire.new) OnlyOpened) }
+        ensures others { OnOk result (Both (W.told wire.old) (W.told wire.new) (OthersStay grant self.old.table.hub self.new.table.hub)) }
+        ensures away { OnOk result (stand_at self.new.table.hub grant ≢ Going) }
         ensures stands { OnOk result (FollowsEvent (GoneNow (conn_at self.old.table.hub grant)) self.old.table.hub self.new.table.hub (C.chain self.old.table.cable) (C.chain self.new.table.cable) (W.told wire.old) (W.told wire.new)) }
         ensures ends { OnOk result ((before : Option WireView) → GoneNow (conn_at self.old.table.hub grant) before (W.told wire.old) → KeepsEnds self.old.table.hub self.new.table.hub (C.chain self.old.table.cable) before (W.told wire.new)) }
     {
@@ -82,6 +85,7 @@ impl<C: Cable> Sessions<C> {
         ensures cause { HasCause (C.fault_count self.old.table.cable) (C.fault_count self.new.table.cable) result }
         ensures shuts { OnOk result (Both (W.told wire.old) (W.told wire.new) (ShutsFor self.old.table.hub.ended self.new.table.hub.ended)) }
         ensures known { OnOk result (Both (W.told wire.old) (W.told wire.new) OnlyOpened) }
+        ensures others { OnOk result (Both (W.told wire.old) (W.told wire.new) (OthersStay grant self.old.table.hub self.new.table.hub)) }
         ensures stands { OnOk result (FollowsEvent (TookNow (conn_at self.old.table.hub grant) piece.now) self.old.table.hub self.new.table.hub (C.chain self.old.table.cable) (C.chain self.new.table.cable) (W.told wire.old) (W.told wire.new)) }
         ensures ends { OnOk result ((before : Option WireView) → TookNow (conn_at self.old.table.hub grant) piece.now before (W.told wire.old) → KeepsEnds self.old.table.hub self.new.table.hub (C.chain self.old.table.cable) before (W.told wire.new)) }
     {
@@ -112,6 +116,8 @@ impl<C: Cable> Sessions<C> {
         ensures cause { HasCause (C.fault_count self.old.table.cable) (C.fault_count self.new.table.cable) result }
         ensures shuts { OnOk result (Both (W.told wire.old) (W.told wire.new) (ShutsFor self.old.table.hub.ended self.new.table.hub.ended)) }
         ensures known { OnOk result (Both (W.told wire.old) (W.told wire.new) OnlyOpened) }
+        ensures others { OnOk result (Both (W.told wire.old) (W.told wire.new) (OthersStay grant self.old.table.hub self.new.table.hub)) }
+        ensures away { OnOk result (stand_at self.new.table.hub grant ≢ Going) }
         ensures stands { OnOk result (FollowsEvent (GoneNow (conn_at self.old.table.hub grant)) self.old.table.hub self.new.table.hub (C.chain self.old.table.cable) (C.chain self.new.table.cable) (W.told wire.old) (W.told wire.new)) }
         ensures ends { OnOk result ((before : Option WireView) → GoneNow (conn_at self.old.table.hub grant) before (W.told wire.old) → KeepsEnds self.old.table.hub self.new.table.hub (C.chain self.old.table.cable) before (W.told wire.new)) }
     {
@@ -133,6 +139,8 @@ impl<C: Cable> Sessions<C> {
         ensures gone { self.new.gone ≡ self.old.gone }
         ensures cable { self.new.table.cable ≡ self.old.table.cable }
         ensures ended { self.new.table.hub.ended ≡ self.old.table.hub.ended }
+        ensures part { result ≡ false → count < length (reply_at self.old.table.hub grant) }
+        ensures ready { (other : ℕ) → other ≢ grant → slice_index_or self.new.table.hub.ready other false ≡ slice_index_or self.old.table.hub.ready other false }
         ensures stands { (before now : WireView) → now ≡ after_give (conn_at self.old.table.hub grant) (length (reply_at self.old.table.hub grant)) (Answer.Bytes (take count (reply_at self.old.table.hub grant))) before → 0 < length (reply_at self.old.table.hub grant) → ConnsAreOpen self.old.table.hub self.old.gone.items [] before
             → KeepsPlay self.old.table.hub self.new.table.hub (C.chain self.old.table.cable) (C.chain self.new.table.cable) (Some before) (Some now) }
     {
@@ -167,6 +175,8 @@ impl<C: Cable> Sessions<C> {
         ensures rests { IfOk result (λ all. all ≡ true → next_of self.old.table.hub ≢ Some grant) }
         ensures shuts { OnOk result (Both (W.told wire.old) (W.told wire.new) (ShutsFor self.old.table.hub.ended self.new.table.hub.ended)) }
         ensures known { OnOk result (Both (W.told wire.old) (W.told wire.new) OnlyOpened) }
+        ensures others { OnOk result (Both (W.told wire.old) (W.told wire.new) (OthersStay grant self.old.table.hub self.new.table.hub)) }
+        ensures short { IfOk result (λ all. all ≡ false → Told (W.told wire.new) (HasNoMore self.new.table.hub grant)) }
         ensures stands { OnOk result (KeepsPlay self.old.table.hub self.new.table.hub (C.chain self.old.table.cable) (C.chain self.new.table.cable) (W.told wire.old) (W.told wire.new)) }
         ensures ends { OnOk result (KeepsEnds self.old.table.hub self.new.table.hub (C.chain self.old.table.cable) (W.told wire.old) (W.told wire.new)) }
     {
@@ -209,6 +219,7 @@ impl<C: Cable> Sessions<C> {
         ensures cause { HasCause (C.fault_count self.old.table.cable) (C.fault_count self.new.table.cable) result }
         ensures shuts { OnOk result (Both (W.told wire.old) (W.told wire.new) (ShutsFor self.old.table.hub.ended self.new.table.hub.ended)) }
         ensures known { OnOk result (Both (W.told wire.old) (W.told wire.new) OnlyOpened) }
+        ensures at_rest { OnOk result (Both (W.told wire.old) (W.told wire.new) (ComesToRest grant self.old.table.hub self.new.table.hub)) }
         ensures stands { OnOk result (KeepsPlay self.old.table.hub self.new.table.hub (C.chain self.old.table.cable) (C.chain self.new.table.cable) (W.told wire.old) (W.told wire.new)) }
         ensures ends { OnOk result (KeepsEnds self.old.table.hub self.new.table.hub (C.chain self.old.table.cable) (W.told wire.old) (W.told wire.new)) }
     {
@@ -248,6 +259,7 @@ impl<C: Cable> Sessions<C> {
         ensures cause { HasCause (C.fault_count self.old.table.cable) (C.fault_count self.new.table.cable) result }
         ensures shuts { OnOk result (Both (W.told wire.old) (W.told wire.new) (ShutsFor self.old.table.hub.ended self.new.table.hub.ended)) }
         ensures known { OnOk result (Both (W.told wire.old) (W.told wire.new) OnlyOpened) }
+        ensures at_rest { OnOk result (Both (W.told wire.old) (W.told wire.new) (ComesToRest grant self.old.table.hub self.new.table.hub)) }
         ensures stands { OnOk result (FollowsEvent (TookNow (conn_at self.old.table.hub grant) piece.now) self.old.table.hub self.new.table.hub (C.chain self.old.table.cable) (C.chain self.new.table.cable) (W.told wire.old) (W.told wire.new)) }
         ensures ends { OnOk result ((before : Option WireView) → TookNow (conn_at self.old.table.hub grant) piece.now before (W.told wire.old) → KeepsEnds self.old.table.hub self.new.table.hub (C.chain self.old.table.cable) before (W.told wire.new)) }
     {
@@ -285,6 +297,7 @@ impl<C: Cable> Sessions<C> {
         ensures cause { HasCause (C.fault_count self.old.table.cable) (C.fault_count self.new.table.cable) result }
         ensures shuts { OnOk result (Both (W.told wire.old) (W.told wire.new) (ShutsFor self.old.table.hub.ended self.new.table.hub.ended)) }
         ensures known { OnOk result (Both (W.told wire.old) (W.told wire.new) OnlyOpened) }
+        ensures at_rest { OnOk result (Both (W.told wire.old) (W.told wire.new) (ComesToRest grant self.old.table.hub self.new.table.hub)) }
         ensures stands { OnOk result (KeepsPlay self.old.table.hub self.new.table.hub (C.chain self.old.table.cable) (C.chain self.new.table.cable) (W.told wire.old) (W.told wire.new)) }
         ensures ends { OnOk result (KeepsEnds self.old.table.hub self.new.table.hub (C.chain self.old.table.cable) (W.told wire.old) (W.told wire.new)) }
     {
@@ -327,6 +340,7 @@ impl<C: Cable> Sessions<C> {
         ensures cause { HasCause (C.fault_count self.old.table.cable) (C.fault_count self.new.table.cable) result }
         ensures shuts { OnOk result (Both (W.told wire.old) (W.told wire.new) (ShutsFor self.old.table.hub.ended self.new.table.hub.ended)) }
         ensures known { OnOk result (Both (W.told wire.old) (W.told wire.new) OnlyOpened) }
+        ensures at_rest { OnOk result (Both (W.told wire.old) (W.told wire.new) (ComesToRest grant self.old.table.hub self.new.table.hub)) }
         ensures stands { OnOk result (KeepsPlay self.old.table.hub self.new.table.hub (C.chain self.old.table.cable) (C.chain self.new.table.cable) (W.told wire.old) (W.told wire.new)) }
         ensures ends { OnOk result (KeepsEnds self.old.table.hub self.new.table.hub (C.chain self.old.table.cable) (W.told wire.old) (W.told wire.new)) }
     {
@@ -362,6 +376,7 @@ impl<C: Cable> Sessions<C> {
         ensures cause { HasCause (C.fault_count self.old.table.cable) (C.fault_count self.new.table.cable) result }
         ensures shuts { OnOk result (Both (W.told wire.old) (W.told wire.new) (ShutsFor self.old.table.hub.ended self.new.table.hub.ended)) }
         ensures known { OnOk result (Both (W.told wire.old) (W.told wire.new) OnlyOpened) }
+        ensures at_rest { OnOk result (Both (W.told wire.old) (W.told wire.new) (ComesToRest grant self.old.table.hub self.new.table.hub)) }
         ensures stands { OnOk result (KeepsPlay self.old.table.hub self.new.table.hub (C.chain self.old.table.cable) (C.chain self.new.table.cable) (W.told wire.old) (W.told wire.new)) }
         ensures ends { OnOk result (KeepsEnds self.old.table.hub self.new.table.hub (C.chain self.old.table.cable) (W.told wire.old) (W.told wire.new)) }
     {
@@ -397,6 +412,7 @@ impl<C: Cable> Sessions<C> {
         ensures cause { HasCause (C.fault_count self.old.table.cable) (C.fault_count self.new.table.cable) result }
         ensures shuts { OnOk result (Both (W.told wire.old) (W.told wire.new) (ShutsFor self.old.table.hub.ended self.new.table.hub.ended)) }
         ensures known { OnOk result (Both (W.told wire.old) (W.told wire.new) OnlyOpened) }
+        ensures at_rest { OnOk result (Both (W.told wire.old) (W.told wire.new) (ComesToRest grant self.old.table.hub self.new.table.hub)) }
         ensures stands { OnOk result (KeepsPlay self.old.table.hub self.new.table.hub (C.chain self.old.table.cable) (C.chain self.new.table.cable) (W.told wire.old) (W.told wire.new)) }
         ensures ends { OnOk result (KeepsEnds self.old.table.hub self.new.table.hub (C.chain self.old.table.cable) (W.told wire.old) (W.told wire.new)) }
     {

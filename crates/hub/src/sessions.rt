@@ -1,5 +1,5 @@
 // The sessions of all grants, served over a wire.
-ghost use Rattle.std.specs.Prelude.{◌≡◌, ◌≢◌, ◌≤◌, ◌<◌, ◌+◌, ℕ, [], ◌∷◌, true, false, not, length, map, drop, slice_set, IfOk, OnOk, OnErr};
+ghost use Rattle.std.specs.Prelude.{◌≡◌, ◌≢◌, ◌≤◌, ◌<◌, ◌+◌, ◌==◌, ℕ, [], ◌∷◌, true, false, not, length, map, drop, slice_set, IfOk, OnOk, OnErr};
 ghost use Rattle.std.specs.List.{list_any};
 ghost use Rattle.std.specs.declared.option.Option.{Option};
 ghost use Rattle.std.specs.declared.option.Option.TheVariants.{None, Some};
@@ -21,6 +21,7 @@ ghost use Rattle.wire_port.specs.Calls.{after_give, IsWire};
 ghost use Rattle.plays.specs.Plays.{Setting, SessionEnd};
 ghost use Rattle.grant_table.specs.Layouts.{grant_of};
 ghost use Rattle.hub.specs.Served.{HasBegun, HasShut, OpensIn, OpensNow, ShutsAfter, ShutsFor, admitted_at, serves_conn, AreWhole, AreCalm, AreFlagged, AreLeft, ConnIsOpen, ConnsAreOpen, KeepsMade, OnlyOf, OnlyOpened, SameSessions, conn_at, grants_of, is_gone, next_of, quieted, ready_as, settled, with_seats};
+ghost use Rattle.hub.specs.Resting.{Rests, RestsBut, names};
 
 use crate::HubFault;
 use chain_model::Cable;
@@ -75,6 +76,7 @@ impl<C: Cable> Sessions<C> {
     }
 
     // A grant's session is served once, where it is ready.
+    #[tactic(auto, using(crate::proofs::Resting::comes_rests_ok, crate::proofs::Resting::rests_none))]
     fn serve_ready<W: Wire>(
         &mut self,
         wire: &mut W,
@@ -98,6 +100,7 @@ impl<C: Cable> Sessions<C> {
         ensures cause { HasCause (C.fault_count self.old.table.cable) (C.fault_count self.new.table.cable) result }
         ensures shuts { OnOk result (Both (W.told wire.old) (W.told wire.new) (ShutsFor self.old.table.hub.ended self.new.table.hub.ended)) }
         ensures known { OnOk result (Both (W.told wire.old) (W.told wire.new) OnlyOpened) }
+        ensures rests { OnOk result (Both (W.told wire.old) (W.told wire.new) (λ before now. Rests self.old.table.hub before → Rests self.new.table.hub now)) }
         ensures stands { OnOk result (KeepsPlay self.old.table.hub self.new.table.hub (C.chain self.old.table.cable) (C.chain self.new.table.cable) (W.told wire.old) (W.told wire.new)) }
         ensures ends { OnOk result (KeepsEnds self.old.table.hub self.new.table.hub (C.chain self.old.table.cable) (W.told wire.old) (W.told wire.new)) }
     {
@@ -108,7 +111,7 @@ impl<C: Cable> Sessions<C> {
     }
 
     // Each session is served once that is ready when its turn comes, in the order of grants.
-    #[tactic(auto, using(crate::proofs::Shutting::shuts_none, crate::proofs::Shutting::shuts_then, crate::proofs::OnTheWire::known_same, crate::proofs::OnTheWire::known_then))]
+    #[tactic(auto, using(crate::proofs::Shutting::shuts_none, crate::proofs::Shutting::shuts_then, crate::proofs::OnTheWire::known_same, crate::proofs::OnTheWire::known_then, crate::proofs::Resting::rests_none))]
     fn rest<W: Wire>(&mut self, wire: &mut W, buffer: &mut [u8]) -> Result<(), HubFault>
         requires whole { AreWhole self.old.table.hub self.old.gone.items }
         requires calm { AreCalm self.old.table.hub self.old.gone.items }
@@ -126,6 +129,7 @@ impl<C: Cable> Sessions<C> {
         ensures cause { HasCause (C.fault_count self.old.table.cable) (C.fault_count self.new.table.cable) result }
         ensures shuts { OnOk result (Both (W.told wire.old) (W.told wire.new) (ShutsFor self.old.table.hub.ended self.new.table.hub.ended)) }
         ensures known { OnOk result (Both (W.told wire.old) (W.told wire.new) OnlyOpened) }
+        ensures rests { OnOk result (Both (W.told wire.old) (W.told wire.new) (λ before now. Rests self.old.table.hub before → Rests self.new.table.hub now)) }
         ensures stands { OnOk result (KeepsPlay self.old.table.hub self.new.table.hub (C.chain self.old.table.cable) (C.chain self.new.table.cable) (W.told wire.old) (W.told wire.new)) }
         ensures ends { OnOk result (KeepsEnds self.old.table.hub self.new.table.hub (C.chain self.old.table.cable) (W.told wire.old) (W.told wire.new)) }
     {
@@ -184,6 +188,7 @@ impl<C: Cable> Sessions<C> {
         ensures cause { HasCause (C.fault_count self.old.table.cable) (C.fault_count self.new.table.cable) result }
         ensures shuts { OnOk result (Both (W.told wire.old) (W.told wire.new) (ShutsFor self.old.table.hub.ended self.new.table.hub.ended)) }
         ensures known { OnOk result (Both (W.told wire.old) (W.told wire.new) OnlyOpened) }
+        ensures rests { OnOk result (Both (W.told wire.old) (W.told wire.new) (λ before now. RestsBut (λ other. conn == other) self.old.table.hub before → Rests self.new.table.hub now)) }
         ensures stands { OnOk result (KeepsPlay self.old.table.hub self.new.table.hub (C.chain self.old.table.cable) (C.chain self.new.table.cable) (W.told wire.old) (W.told wire.new)) }
         ensures ends { OnOk result (KeepsEnds self.old.table.hub self.new.table.hub (C.chain self.old.table.cable) (W.told wire.old) (W.told wire.new)) }
     {
@@ -217,6 +222,7 @@ impl<C: Cable> Sessions<C> {
         ensures made { KeepsMade self.old.table.hub self.new.table.hub }
         ensures calm { AreCalm self.new.table.hub self.new.gone.items }
         ensures begun { HasBegun grant conn self.old.table.hub self.new.table.hub }
+        ensures ready { self.new.table.hub.ready ≡ slice_set self.old.table.hub.ready grant true }
         ensures gone { self.new.gone.items ≡ slice_set self.old.gone.items grant false }
         ensures cable { self.new.table.cable ≡ self.old.table.cable }
         ensures ended { self.new.table.hub.ended ≡ self.old.table.hub.ended }
@@ -244,6 +250,7 @@ impl<C: Cable> Sessions<C> {
         ensures ended { self.new.table.hub.ended ≡ self.old.table.hub.ended }
         ensures shuts { Both (W.told wire.old) (W.told wire.new) (ShutsAfter (Opened conn port) self.old.table.hub []) }
         ensures known { Both (W.told wire.old) (W.told wire.new) OnlyOpened }
+        ensures rests { Both (W.told wire.old) (W.told wire.new) (λ before now. RestsBut (names (Opened conn port)) self.old.table.hub before → Rests self.new.table.hub now) }
         ensures stands { FollowsEvent (FoundNow (Opened conn port)) self.old.table.hub self.new.table.hub (C.chain self.old.table.cable) (C.chain self.new.table.cable) (W.told wire.old) (W.told wire.new) }
         ensures ends { (before : Option WireView) → FoundNow (Opened conn port) before (W.told wire.old) → KeepsEnds self.old.table.hub self.new.table.hub (C.chain self.old.table.cable) before (W.told wire.new) }
     {
@@ -278,6 +285,7 @@ impl<C: Cable> Sessions<C> {
         ensures cause { HasCause (C.fault_count self.old.table.cable) (C.fault_count self.new.table.cable) result }
         ensures shuts { OnOk result (Both (W.told wire.old) (W.told wire.new) (ShutsAfter found self.old.table.hub self.new.table.hub.ended)) }
         ensures known { OnOk result (Both (W.told wire.old) (W.told wire.new) OnlyOpened) }
+        ensures rests { OnOk result (Both (W.told wire.old) (W.told wire.new) (λ before now. RestsBut (names found) self.old.table.hub before → Rests self.new.table.hub now)) }
         ensures stands { OnOk result (FollowsEvent (FoundNow found) self.old.table.hub self.new.table.hub (C.chain self.old.table.cable) (C.chain self.new.table.cable) (W.told wire.old) (W.told wire.new)) }
         ensures ends { OnOk result ((before : Option WireView) → FoundNow found before (W.told wire.old) → KeepsEnds self.old.table.hub self.new.table.hub (C.chain self.old.table.cable) before (W.told wire.new)) }
     {
@@ -318,6 +326,7 @@ impl<C: Cable> Sessions<C> {
         ensures cause { HasCause (C.fault_count self.old.table.cable) (C.fault_count self.new.table.cable) result }
         ensures shuts { OnOk result (Both (W.told wire.old) (W.told wire.new) (ShutsAfter found self.old.table.hub self.new.table.hub.ended)) }
         ensures known { OnOk result (Both (W.told wire.old) (W.told wire.new) OnlyOpened) }
+        ensures rests { OnOk result (Both (W.told wire.old) (W.told wire.new) (λ before now. RestsBut (names found) self.old.table.hub before → Rests self.new.table.hub now)) }
         ensures stands { OnOk result (FollowsEvent (FoundNow found) self.old.table.hub self.new.table.hub (C.chain self.old.table.cable) (C.chain self.new.table.cable) (W.told wire.old) (W.told wire.new)) }
         ensures ends { OnOk result ((setting : Setting) (before : Option WireView) → FoundNow found before (W.told wire.old) → StandsOnBut setting [] self.old.table.hub (C.chain self.old.table.cable) before → EndsFollow setting before (W.told wire.new) self.new.table.hub.ended) }
     {
@@ -344,6 +353,7 @@ impl<C: Cable> Sessions<C> {
         ensures cause { HasCause (C.fault_count self.old.table.cable) (C.fault_count self.new.table.cable) result }
         ensures shuts { OnOk result (Both (W.told wire.old) (W.told wire.new) (ShutsFor [] self.new.table.hub.ended)) }
         ensures known { OnOk result (Both (W.told wire.old) (W.told wire.new) OnlyOpened) }
+        ensures rests { OnOk result (Both (W.told wire.old) (W.told wire.new) (λ before now. Rests self.old.table.hub before → Rests self.new.table.hub now)) }
         ensures stands { OnOk result (KeepsPlay self.old.table.hub self.new.table.hub (C.chain self.old.table.cable) (C.chain self.new.table.cable) (W.told wire.old) (W.told wire.new)) }
         ensures ends { OnOk result ((setting : Setting) → StandsOnBut setting [] self.old.table.hub (C.chain self.old.table.cable) (W.told wire.old) → EndsFollow setting (W.told wire.old) (W.told wire.new) self.new.table.hub.ended) }
     {

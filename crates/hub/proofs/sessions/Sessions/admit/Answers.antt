@@ -7,6 +7,7 @@ use Rattle.hub.proofs.Shutting.{away_shut}
 use Rattle.hub.proofs.OnTheWire.{known_can, shut_only}
 use Rattle.hub.proofs.Openings.{admitted_granted, away_follows}
 use Rattle.hub.proofs.Ends.{away_ends}
+use Rattle.hub.proofs.Resting.{away_rests, new_rests}
 use Rattle.hub.proofs.sessions.Sessions.admit.Goals as goal
 
 pub begin-requires-clause-grant : goal.begin-requires-clause-grant
@@ -36,3 +37,10 @@ returns-in-None-clause-ends g c = away_ends c.args.self.now.table.hub c.args.sel
 
 pub returns-in-Some-clause-ends : goal.returns-in-Some-clause-ends
 returns-in-Some-clause-ends g c = c.begin.ensures.ends c.args.port (g.W.Wire.told c.args.wire.now) (g.met.W.Wire.is_wire c.args.wire.now) (admitted_granted c.args.self.now.table.hub c.args.port c.in-Some.grant c.in-Some.ensures)
+
+pub returns-in-Some-clause-rests : goal.returns-in-Some-clause-rests
+returns-in-Some-clause-rests g c = new_rests c.in-Some.grant c.args.conn c.args.port c.args.self.now.table.hub c.begin.new.self.table.hub (g.W.Wire.told c.args.wire.now) (omega (arith, c.requires.whole.ready, admitted_below c.args.self.now.table.hub c.args.port c.in-Some.grant (sym c.in-Some.ensures)))
+    c.begin.ensures.begun c.begin.ensures.ready c.requires.opens
+
+pub returns-in-None-clause-rests : goal.returns-in-None-clause-rests
+returns-in-None-clause-rests g c = away_rests c.args.conn c.args.port c.args.self.now.table.hub (g.W.Wire.told c.args.wire.now) (g.W.Wire.told c.shut.new.self) c.requires.opens c.shut.ensures.told

@@ -6,6 +6,7 @@ use Rattle.hub.specs.Served.{ready_as}
 use Rattle.hub.specs.Standing.{StandsOnBut}
 use Rattle.hub.proofs.Ends.{follow_none, more_ends}
 use Rattle.hub.proofs.LettingGo.{let_more}
+use Rattle.hub.proofs.Resting.{keep_none, keep_then, let_rests}
 use Rattle.hub.proofs.Shutting.{due_first, due_more, due_done}
 use Rattle.hub.proofs.SeatLists.{lets_first, lets_more, nothing_left}
 use Rattle.hub.proofs.OnTheWire.{known_same, known_then, first_there, first_open, rest_left, rest_open}
@@ -32,6 +33,7 @@ loop-at-init g c = record {
   conns = c.requires.conns;
   due = due_first (drop c.args.earlier c.args.self.now.table.hub.ended) (g.W.Wire.told c.args.wire.now);
   known = known_same (g.W.Wire.told c.args.wire.now);
+  rests = keep_none c.args.self.now.table.hub (g.W.Wire.told c.args.wire.now);
   stands = λ setting stands. stands;
   ends = λ setting stands. follow_none setting (drop c.args.earlier c.args.self.now.table.hub.ended) c.args.self.now.table.hub (g.C.Cable.chain c.args.self.now.table.cable) (g.W.Wire.told c.args.wire.now) stands;
   door = refl;
@@ -46,6 +48,9 @@ loop-at-preserved g c = record {
   conns = rest_open c.args.self.now.table.hub c.args.self.now.gone.items _ _ (session_end c.ended_at-ended.result) _ _ (there c.args.self.now.table c.loop-at.self.table c.loop-at.at _ (session_end c.ended_at-ended.result) c.loop-at.invariant.table.table c.ended_at-ended.ensures) c.loop-at.invariant.left c.loop-at.invariant.conns c.let_go.ensures.only;
   due = due_more (drop c.args.earlier c.args.self.now.table.hub.ended) _ _ (session_end c.ended_at-ended.result) _ _ _ (there c.args.self.now.table c.loop-at.self.table c.loop-at.at _ (session_end c.ended_at-ended.result) c.loop-at.invariant.table.table c.ended_at-ended.ensures) c.loop-at.invariant.due c.let_go.ensures.shuts;
   known = known_then _ _ _ c.loop-at.invariant.known c.let_go.ensures.known;
+  rests = keep_then c.args.self.now.table.hub c.loop-at.self.table.hub c.let_go.new.self.table.hub (g.W.Wire.told c.args.wire.now) (g.W.Wire.told c.loop-at.wire) (g.W.Wire.told c.let_go.new.wire) c.loop-at.invariant.rests
+      (let_rests c.args.self.now.table c.loop-at.self.table c.let_go.new.self.table _ c.args.self.now.gone.items _ _ (session_end c.ended_at-ended.result) (g.W.Wire.told c.loop-at.wire) (g.W.Wire.told c.let_go.new.wire) c.loop-at.invariant.table.table c.let_go.ensures.ready
+      (there c.args.self.now.table c.loop-at.self.table c.loop-at.at _ (session_end c.ended_at-ended.result) c.loop-at.invariant.table.table c.ended_at-ended.ensures) c.loop-at.invariant.left c.loop-at.invariant.conns c.let_go.ensures.only);
   stands = λ setting stands. let_more g.C.Cable.chain setting c.args.self.now.table c.loop-at.self.table c.let_go.new.self.table _ c.args.self.now.gone.items c.loop-at.self.gone.items c.loop-at.at (session_end c.ended_at-ended.result) _ _
       c.loop-at.invariant.table.table (ap (λ gone. gone.items) c.loop-at.invariant.gone) (there c.args.self.now.table c.loop-at.self.table c.loop-at.at _ (session_end c.ended_at-ended.result) c.loop-at.invariant.table.table c.ended_at-ended.ensures)
       c.loop-at.invariant.left c.loop-at.invariant.conns (c.let_go.ensures.stands setting) (c.loop-at.invariant.stands setting stands);

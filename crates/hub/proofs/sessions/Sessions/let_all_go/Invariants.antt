@@ -4,6 +4,7 @@ use Rattle.plays.specs.Plays.{Setting}
 use Rattle.plays.specs.Schedule.{with_ready}
 use Rattle.hub.specs.Served.{AreLeft, ConnsAreOpen, OnlyOpened, grants_of}
 use Rattle.hub.specs.Standing.{EndsFollow, StandsOnBut}
+use Rattle.hub.specs.Resting.{KeepsRest}
 use Rattle.hub.proofs.Shutting.{Due}
 use Rattle.hub.proofs.SeatLists.{LettingGo}
 use Rattle.hub.proofs.sessions.Sessions.let_all_go.Given as goal
@@ -16,6 +17,7 @@ invariant-loop-at g l = record {
   conns : Told (g.W.Wire.told l.wire) (ConnsAreOpen l.fn.self.table.hub l.fn.self.gone.items (drop l.at l.fn.self.table.hub.ended));
   due : Both (g.W.Wire.told l.fn.wire) (g.W.Wire.told l.wire) (Due (drop l.fn.earlier l.fn.self.table.hub.ended) (drop l.at l.fn.self.table.hub.ended));
   known : Both (g.W.Wire.told l.fn.wire) (g.W.Wire.told l.wire) OnlyOpened;
+  rests : Both (g.W.Wire.told l.fn.wire) (g.W.Wire.told l.wire) (KeepsRest l.fn.self.table.hub l.self.table.hub);
   stands : (setting : Setting) → StandsOnBut setting (drop l.fn.earlier l.fn.self.table.hub.ended) l.fn.self.table.hub (g.C.Cable.chain l.fn.self.table.cable) (g.W.Wire.told l.fn.wire)
       → StandsOnBut setting (drop l.at l.fn.self.table.hub.ended) l.self.table.hub (g.C.Cable.chain l.self.table.cable) (g.W.Wire.told l.wire);
   ends : (setting : Setting) → StandsOnBut setting (drop l.fn.earlier l.fn.self.table.hub.ended) l.fn.self.table.hub (g.C.Cable.chain l.fn.self.table.cable) (g.W.Wire.told l.fn.wire)

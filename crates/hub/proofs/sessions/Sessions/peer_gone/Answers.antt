@@ -1,10 +1,13 @@
-use Rattle.std.proofs.Common.{ap, sym, subst, [], ◌∙◌}
+use Rattle.std.proofs.Common.{◌≢◌, ap, sym, subst, [], ◌∙◌}
+use Rattle.client_session.specs.declared.Stand.TheVariants.{Going}
+use Rattle.session_table.specs.Tables.{stand_at}
 use Rattle.base_types.specs.Tellings.{Told}
 use Rattle.hub.specs.Served.{AreWhole, AreCalm, ConnsAreOpen}
 use Rattle.hub.proofs.AfterCalls.{calm_set, calm_then, here_open, keeps_whole, left_from, open_from, open_set, went_flagged, whole_set, whole_then}
 use Rattle.hub.proofs.Shutting.{shuts_beyond, shuts_moved}
 use Rattle.hub.proofs.Events.{gone_from, set_keeps}
 use Rattle.hub.proofs.Ends.{gone_ends, settled_ends}
+use Rattle.hub.proofs.Resting.{gone_away, set_stay, went_stay}
 use Rattle.hub.proofs.sessions.Sessions.peer_gone.Goals as goal
 
 pub settle-requires-clause-left : goal.settle-requires-clause-left
@@ -44,3 +47,10 @@ returns-clause-ends g c = λ before event setting earlier stands since. settled_
     c.requires.whole c.requires.others c.requires.grant c.requires.here c.in_ok-peer_gone.ensures.kept (c.in_ok-peer_gone.ensures.went c.requires.rests) c.in_ok-peer_gone.ensures.follows c.requires.conns (g.met.W.Wire.is_wire c.args.wire.now) event stands))
     (gone_ends setting earlier c.args.self.now.table.hub c.peer_gone.new.self.hub c.args.self.now.gone.items c.args.grant (g.C.Cable.chain c.args.self.now.table.cable) (g.C.Cable.chain c.peer_gone.new.self.cable) before (g.W.Wire.told c.args.wire.now)
     c.requires.whole c.requires.grant c.requires.here c.in_ok-peer_gone.ensures.follows event stands since)
+
+pub returns-clause-others : goal.returns-clause-others
+returns-clause-others g c = set_stay c.args.self.now.table.hub c.settle.new.self.table c.set_ready.new.self c.args.grant _ (g.W.Wire.told c.args.wire.now) (g.W.Wire.told c.settle.new.wire) c.set_ready.ensures
+    (went_stay c.args.grant _ c.args.self.now.table.hub c.peer_gone.new.self.hub c.settle.new.self.table.hub (g.W.Wire.told c.args.wire.now) (g.W.Wire.told c.settle.new.wire) c.in_ok-peer_gone.ensures.kept (c.in_ok-peer_gone.ensures.went c.requires.rests) c.settle.ensures.rests)
+
+pub returns-clause-away : goal.returns-clause-away
+returns-clause-away g c = subst (λ table. stand_at table.hub c.args.grant ≢ Going) (sym c.set_ready.ensures) (gone_away c.args.grant _ c.args.self.now.table.hub c.peer_gone.new.self c.settle.new.self.table (c.in_ok-peer_gone.ensures.went c.requires.rests) c.settle.ensures.table)

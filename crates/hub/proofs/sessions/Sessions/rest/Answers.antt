@@ -3,6 +3,7 @@ use Rattle.hub.proofs.Ends.{ends_then}
 use Rattle.hub.proofs.Giving.{keeps_then}
 use Rattle.hub.proofs.OnTheWire.{known_then}
 use Rattle.hub.proofs.Shutting.{shuts_then}
+use Rattle.hub.proofs.Resting.{rests_then}
 use Rattle.hub.proofs.sessions.Sessions.rest.Goals as goal
 
 pub loop-grant-preserved : goal.loop-grant-preserved
@@ -17,6 +18,7 @@ loop-grant-preserved g c = record {
   conns = c.in_ok-serve_ready.ensures.conns;
   shuts = shuts_then _ c.loop-grant.self.table.hub.ended _ _ _ _ c.loop-grant.invariant.shuts c.in_ok-serve_ready.ensures.shuts;
   known = known_then _ _ _ c.loop-grant.invariant.known c.in_ok-serve_ready.ensures.known;
+  rests = rests_then c.args.self.now.table.hub c.loop-grant.self.table.hub c.serve_ready.new.self.table.hub (g.W.Wire.told c.args.wire.now) (g.W.Wire.told c.loop-grant.wire) (g.W.Wire.told c.serve_ready.new.wire) c.loop-grant.invariant.rests c.in_ok-serve_ready.ensures.rests;
   stands = keeps_then c.args.self.now.table.hub c.loop-grant.self.table.hub c.serve_ready.new.self.table.hub (g.C.Cable.chain c.args.self.now.table.cable) (g.C.Cable.chain c.loop-grant.self.table.cable) (g.C.Cable.chain c.serve_ready.new.self.table.cable) (g.W.Wire.told c.args.wire.now) (g.W.Wire.told c.loop-grant.wire) (g.W.Wire.told c.serve_ready.new.wire) c.loop-grant.invariant.stands c.in_ok-serve_ready.ensures.stands;
   ends = ends_then c.args.self.now.table.hub c.loop-grant.self.table.hub c.serve_ready.new.self.table.hub (g.C.Cable.chain c.args.self.now.table.cable) (g.C.Cable.chain c.loop-grant.self.table.cable) (g.W.Wire.told c.args.wire.now) (g.W.Wire.told c.loop-grant.wire) (g.W.Wire.told c.serve_ready.new.wire) c.loop-grant.invariant.stands c.loop-grant.invariant.ends c.in_ok-serve_ready.ensures.ends;
   door = c.in_ok-serve_ready.ensures.door ∙ c.loop-grant.invariant.door;

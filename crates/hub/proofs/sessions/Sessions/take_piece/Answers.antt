@@ -1,4 +1,4 @@
-use Rattle.std.proofs.Common.{arith, ap, take}
+use Rattle.std.proofs.Common.{arith, ap, refl, take}
 use Rattle.wire_port.specs.Offers.{Answer}
 use Rattle.client_session.specs.Sessions.{is_here, is_taken}
 use Rattle.hub.proofs.AfterCalls.{here_is_open}
@@ -8,6 +8,7 @@ use Rattle.hub.specs.Served.{is_gone}
 use Rattle.hub.proofs.OnTheWire.{in_use_open, known_open, known_then_ok, taken_only}
 use Rattle.hub.proofs.Events.{lost_keeps, none_keeps, took_keeps}
 use Rattle.hub.proofs.Ends.{came_ends, left_ends, untaken_ends}
+use Rattle.hub.proofs.Resting.{comes_then_ok, lost_comes_ok, only_stay, same_none, set_comes, took_not}
 use Rattle.hub.proofs.sessions.Sessions.take_piece.Goals as goal
 
 pub take-requires-clause-open : goal.take-requires-clause-open
@@ -56,3 +57,18 @@ returns-in-NotNow-clause-ends g c = untaken_ends c.args.conn c.args.self.now.tab
 pub returns-in-Gone-clause-ends : goal.returns-in-Gone-clause-ends
 returns-in-Gone-clause-ends g c = left_ends _ c.args.conn c.args.self.now.table.hub c.lose.new.self.table.hub (g.C.Cable.chain c.args.self.now.table.cable)
     (g.W.Wire.told c.args.wire.now) (g.W.Wire.told c.take.new.self) (g.W.Wire.told c.lose.new.wire) c.in-Gone.ensures.told (rw c.requires.conn c.lose.ensures.ends)
+
+pub returns-in-Bytes-clause-at_rest : goal.returns-in-Bytes-clause-at_rest
+returns-in-Bytes-clause-at_rest g c = comes_then_ok c.args.grant c.args.self.now.table.hub c.args.self.now.table.hub c.use_bytes.new.self.table.hub (g.W.Wire.told c.args.wire.now) (g.W.Wire.told c.take.new.self) (g.W.Wire.told c.use_bytes.new.wire) c.use_bytes.result
+    (only_stay c.args.grant c.args.conn c.args.self.now.table.hub c.args.self.now.table.hub c.args.self.now.gone.items (g.W.Wire.told c.args.wire.now) (g.W.Wire.told c.take.new.self) (ap is_taken c.requires.going) c.requires.conn (same_none c.args.self.now.table.hub) (λ other ne. refl) c.requires.conns
+    (taken_only c.args.conn (Answer.Bytes (take c.in-Bytes.count c.take.new.buf)) _ _ c.in-Bytes.ensures.told)) c.use_bytes.ensures.at_rest
+
+pub returns-in-NotNow-clause-at_rest : goal.returns-in-NotNow-clause-at_rest
+returns-in-NotNow-clause-at_rest g c = set_comes c.args.self.now.table.hub c.args.self.now.table c.set_ready.new.self c.args.grant _ (g.W.Wire.told c.args.wire.now) (g.W.Wire.told c.take.new.self) c.set_ready.ensures (omega (arith, c.requires.whole.seats, c.requires.whole.ready, c.requires.grant))
+    (only_stay c.args.grant c.args.conn c.args.self.now.table.hub c.args.self.now.table.hub c.args.self.now.gone.items (g.W.Wire.told c.args.wire.now) (g.W.Wire.told c.take.new.self) (ap is_taken c.requires.going) c.requires.conn (same_none c.args.self.now.table.hub) (λ other ne. refl) c.requires.conns
+    (taken_only c.args.conn Answer.NotNow _ _ c.in-NotNow.ensures.told)) (λ off. took_not c.args.grant c.args.conn c.args.self.now.table.hub c.args.self.now.table.hub (g.W.Wire.told c.args.wire.now) (g.W.Wire.told c.take.new.self) c.requires.conn (same_none c.args.self.now.table.hub) c.in-NotNow.ensures.told)
+
+pub returns-in-Gone-clause-at_rest : goal.returns-in-Gone-clause-at_rest
+returns-in-Gone-clause-at_rest g c = lost_comes_ok c.args.grant c.args.self.now.table.hub c.args.self.now.table.hub c.lose.new.self.table.hub (g.W.Wire.told c.args.wire.now) (g.W.Wire.told c.take.new.self) (g.W.Wire.told c.lose.new.wire) c.lose.result
+    (only_stay c.args.grant c.args.conn c.args.self.now.table.hub c.args.self.now.table.hub c.args.self.now.gone.items (g.W.Wire.told c.args.wire.now) (g.W.Wire.told c.take.new.self) (ap is_taken c.requires.going) c.requires.conn (same_none c.args.self.now.table.hub) (λ other ne. refl) c.requires.conns
+    (taken_only c.args.conn Answer.Gone _ _ c.in-Gone.ensures.told)) c.lose.ensures.others c.lose.ensures.away

@@ -5,6 +5,7 @@ use Rattle.hub.proofs.AfterCalls.{calm_then, going_flagged, keeps_whole, left_fr
 use Rattle.hub.proofs.Shutting.{shuts_beyond, shuts_moved}
 use Rattle.hub.proofs.Events.{took_from}
 use Rattle.hub.proofs.Ends.{settled_ends, took_ends}
+use Rattle.hub.proofs.Resting.{went_stay}
 use Rattle.hub.proofs.sessions.Sessions.took.Goals as goal
 
 pub settle-requires-clause-left : goal.settle-requires-clause-left
@@ -36,3 +37,6 @@ returns-clause-ends g c = λ before event setting earlier stands since. settled_
     c.requires.whole c.requires.calm.flagged c.requires.grant c.requires.going c.in_ok-took.ensures.kept c.in_ok-took.ensures.went c.in_ok-took.ensures.follows c.requires.conns (g.met.W.Wire.is_wire c.args.wire.now) event stands))
     (took_ends setting earlier c.args.self.now.table.hub c.took.new.self.hub c.args.self.now.gone.items c.args.grant c.args.piece.now (g.C.Cable.chain c.args.self.now.table.cable) (g.C.Cable.chain c.took.new.self.cable) before (g.W.Wire.told c.args.wire.now)
     c.requires.whole c.requires.grant c.requires.going c.in_ok-took.ensures.follows event stands since)
+
+pub returns-clause-others : goal.returns-clause-others
+returns-clause-others g c = went_stay c.args.grant _ c.args.self.now.table.hub c.took.new.self.hub c.settle.new.self.table.hub (g.W.Wire.told c.args.wire.now) (g.W.Wire.told c.settle.new.wire) c.in_ok-took.ensures.kept c.in_ok-took.ensures.went c.settle.ensures.rests
