@@ -1,5 +1,5 @@
 -- What calls do to sessions that rest.
-use Rattle.std.proofs.Common.{◌≡◌, ◌≢◌, ◌==◌, ◌&&◌, cond, ℕ, ◌<◌, Bool, true, false, List, [], ◌∷◌, length, map, take, drop, ◌≤◌, refl, ap, sym, subst, ◌∙◌, arith, inl, inr, ◌⊎◌, ◌×◌, length-take}
+use Rattle.std.proofs.Common.{◌≡◌, ◌≢◌, ◌==◌, ◌&&◌, cond, ℕ, ◌<◌, Bool, true, false, List, [], ◌∷◌, length, map, take, drop, ◌≤◌, refl, ap, sym, subst, ◌∙◌, arith, inl, inr, ◌⊎◌, length-take}
 use Rattle.std.specs.List.{slice_index_or, slice_set}
 use Rattle.std.specs.declared.option.Option.{Option}
 use Rattle.std.specs.declared.option.Option.TheVariants.{None, Some}
