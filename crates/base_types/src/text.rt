@@ -1,8 +1,8 @@
 // A text that is seen as its bytes.
-ghost use Rattle.std.specs.Prelude.{◌≡◌, ◌≤◌, ◌<◌, [], ◌∷◌, ◌++◌, length, map, eqb, string_bytes, encode_utf8, IsOk, IfOk, OnOk, OnErr};
+ghost use Rattle.std.specs.Prelude.{◌≡◌, ◌+◌, ◌≤◌, ◌<◌, [], ◌∷◌, ◌++◌, length, map, eqb, string_bytes, encode_utf8, IsOk, IfOk, OnOk, OnErr};
 ghost use Rattle.std.specs.Str.{IsAscii};
 ghost use Rattle.std.specs.Char.{to_ascii_uppercase};
-ghost use Rattle.base_types.specs.Texts.{bytes_of};
+ghost use Rattle.base_types.specs.Texts.{bytes_of, HasPlace};
 
 use arrayvec::ArrayString;
 use std::alloc::{AllocError, Global};
@@ -31,9 +31,11 @@ impl Model for Text {
 
     ghost Value = { List ℕ };
 
-    ghost use Rattle.base_types.specs.Texts.{bytes_of};
+    ghost use Rattle.base_types.specs.Texts.{bytes_of, HasPlace};
 
     ghost view = { λ text. bytes_of text.letters };
+
+    ghost invariant = { λ text. HasPlace text.letters };
 }
 
 impl Text {
@@ -43,15 +45,6 @@ impl Text {
     {
         Text {
             letters: Letters::Short(ArrayString::new()),
-        }
-    }
-
-    /// The text of this string. Takes no memory.
-    pub fn from_string(string: String) -> Self
-        ensures { result ≡ string_bytes string }
-    {
-        Text {
-            letters: Letters::Long(string),
         }
     }
 
@@ -105,10 +98,12 @@ impl Text {
         self.len() == 0
     }
 
-    /// Puts a letter behind the others. Where there is no memory the text stays as it was.
+    /// Puts a letter behind the others. Takes no memory where at most 16 bytes come of it. Where there is no memory the text stays as
+    /// it was.
     pub fn push(&mut self, alloc: Global, letter: char) -> Result<(), AllocError>
         ensures added { OnOk result (self.new ≡ self.old ++ encode_utf8 letter) }
         ensures ascii { letter < 128 → OnOk result (self.new ≡ self.old ++ letter ∷ []) }
+        ensures short { length self.old + length (encode_utf8 letter) ≤ 16 → IsOk result }
         ensures kept { OnErr result (self.new ≡ self.old) }
     {
         push_letter(alloc, &mut self.letters, letter)
@@ -126,8 +121,11 @@ impl Default for Text {
 }
 
 fn push_letter(alloc: Global, letters: &mut Letters, letter: char) -> Result<(), AllocError>
+    requires { HasPlace letters.old }
+    ensures place { HasPlace letters.new }
     ensures added { OnOk result (bytes_of letters.new ≡ bytes_of letters.old ++ encode_utf8 letter) }
     ensures ascii { letter < 128 → encode_utf8 letter ≡ letter ∷ [] }
+    ensures short { length (bytes_of letters.old) + length (encode_utf8 letter) ≤ 16 → IsOk result }
     ensures kept { OnErr result (bytes_of letters.new ≡ bytes_of letters.old) }
 {
     match letters {

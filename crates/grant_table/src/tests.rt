@@ -108,7 +108,7 @@ fn small_plan(alloc: Global, boundary: u32) -> Result<PartPlan, AllocError>
     patterns.push(pattern(alloc, &[Digit::One, Digit::One])?)?;
     let mut opcodes = Items::from_vec(Vec::new(alloc));
     opcodes.push(Opcode {
-        name: Text::from_string(String::from_str(alloc, "BYPASS")?),
+        name: Text::from_str(alloc, "BYPASS")?,
         patterns: Patterns::from_vec(patterns),
     })?;
     Ok(PartPlan {

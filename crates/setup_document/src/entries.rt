@@ -17,7 +17,7 @@ fn name_of(alloc: Global, table: &Table, place: Place) -> Result<Text, DocumentR
     ensures { k.Reads (λ name. name) result (k.and_then (k.required place (get_member (codes "bsdl") (table_view table.now))) (k.file_name place)) }
 {
     let name = file_name(required(table, "bsdl", place)?, place)?;
-    Ok(Text::from_string(String::from_str(alloc, name)?))
+    Ok(Text::from_str(alloc, name)?)
 }
 
 fn pins_of(alloc: Global, table: &Table, place: Place) -> Result<Option<Text>, DocumentRefusal>
@@ -27,7 +27,7 @@ fn pins_of(alloc: Global, table: &Table, place: Place) -> Result<Option<Text>, D
         return Ok(None);
     };
     let text = pins(value, place)?;
-    Ok(Some(Text::from_string(String::from_str(alloc, text)?)))
+    Ok(Some(Text::from_str(alloc, text)?))
 }
 
 pub fn device(alloc: Global, value: &Value, place: Place) -> Result<DeviceEntry, DocumentRefusal>
