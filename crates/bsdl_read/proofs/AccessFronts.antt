@@ -1,5 +1,5 @@
 -- The content of REGISTER_ACCESS: registers and names that are read at once.
-use Rattle.std.proofs.Common.{◌≡◌, ℕ, ◌-◌, ◌<◌, ◌==◌, nat_lt, ◌&&◌, not, Bool, true, false, length, List, [], ◌∷◌, ◌++◌, map, refl, sym, ap, ◌∙◌, arith}
+use Rattle.std.proofs.Common.{◌≡◌, ℕ, ◌-◌, ◌<◌, ◌==◌, nat_lt, ◌&&◌, not, Bool, true, false, length, List, [], ◌∷◌, ◌++◌, map, refl, sym, ap, subst, ◌∙◌, arith}
 use Rattle.std.specs.Prelude.{codes}
 use Rattle.std.specs.declared.option.Option.{Option}
 use Rattle.std.specs.declared.option.Option.TheVariants.{Some}
@@ -109,3 +109,16 @@ name_ends e after bytes word is_last behind due leads names =
     ∙ sym (one_name e names.name is_last behind names.has_name)
     ∙ ap (through next_byte (at_name e)) (sym names.are)
     ∙ ap (λ (x : Entries). through next_byte x bytes) (sym due)
+
+-- a register with its first instruction
+pub first_name_ends : (e opened after : Entries) (bytes word name : List ℕ) (length : Option ℕ) (is_last last : Bool) (behind : List ℕ) → e ≡ with_entries e.done → fine_result (with_opened e word length) ≡ fine_result opened
+    → fine_result (with_named opened name last) ≡ fine_result after → is_last ≡ last → NamesOne bytes name is_last behind
+    → through next_byte after behind ≡ through next_byte (with_opened e word length) bytes
+first_name_ends e opened after bytes word name length is_last last behind between opens leads same names =
+    let is : with_opened e word length ≡ opened = same_ok _ _ opens in
+    let due : with_opened e word length ≡ at_name (with_opened e word length) = ap (λ (x : Entries). with_opened x word length) between ∙ ap (λ (x : Entries). at_name (with_opened x word length)) (sym between) in
+    name_ends (with_opened e word length) after bytes name last behind due (ap (λ (x : Entries). fine_result (with_named x name last)) is ∙ leads) (subst (λ (sign : Bool). NamesOne bytes name sign behind) same names)
+
+pub register_read : (e after : Entries) (bytes word : List ℕ) (length : Option ℕ) (names behind : List ℕ) → e ≡ with_entries e.done → through next_byte after behind ≡ through next_byte (with_opened e word length) names → OpensWith bytes word length names
+    → through next_byte after behind ≡ through next_byte e bytes
+register_read e after bytes word length names behind between goes opens = goes ∙ register_opens e (with_opened e word length) bytes word length names between refl opens

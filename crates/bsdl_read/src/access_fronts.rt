@@ -1,17 +1,18 @@
 // What stands whole at the front of a text of REGISTER_ACCESS is read at once, and the rest byte by byte.
-ghost use Rattle.std.specs.Prelude.{◌≡◌, ◌<◌, ◌≤◌, ◌++◌, [], true, length, IsTrue, IfOk, IfErr, IfSome, Ok};
+ghost use Rattle.std.specs.Prelude.{◌≡◌, ℕ, ◌<◌, ◌≤◌, ◌++◌, [], true, length, IsTrue, IfOk, IfErr, IfSome, OnOk, Result, Ok};
 ghost use Rattle.std.specs.List.{list_all};
 ghost use Rattle.bsdl_lex.specs.Tokens as t;
 ghost use Rattle.bsdl_lex.specs.Tokens.{SpansRise};
 ghost use Rattle.bsdl_read.specs.Contents as c;
 ghost use Rattle.bsdl_read.specs.Accesses as a;
 ghost use Rattle.bsdl_read.specs.ContentGrammar.{is_name};
-ghost use Rattle.bsdl_read.specs.declared.accesses.AccessStage.TheVariants.{Entry};
+ghost use Rattle.bsdl_read.specs.declared.accesses.AccessStage.TheVariants.{Closed, Entry};
 
 use crate::accesses::{AccessReading, AccessStage};
 use crate::contents::{ContentFault, behind_sign, inside, is_space, name_of, number_of, split_run};
 use crate::words::same_word;
 use bsdl_lex::{Token, in_word, is_digit, is_letter};
+use part_model::{Access, Names};
 use std::alloc::Global;
 
 // A word, and the bytes behind it.
@@ -180,6 +181,77 @@ impl AccessReading {
         Ok(())
     }
 
+    // A whole entry with one instruction.
+    fn entered(
+        &mut self,
+        alloc: Global,
+        word: &[u8],
+        length: Option<u32>,
+        name: &[u8],
+    ) -> Result<(), ContentFault>
+        requires between { a.view self.old ≡ a.with_entries self.old.done.items }
+        requires register { list_all t.in_word word.now ≡ true }
+        requires name { list_all t.in_word name.now ≡ true }
+        ensures is { c.Steps (a.view self.new) result (Ok (a.with_named (a.with_opened (a.view self.old) word.now length) name.now true)) }
+        ensures stage { OnOk result (self.new.stage ≡ Closed) }
+    {
+        let register = name_of(alloc, word)?;
+        let mut instructions = Names::new(alloc);
+        instructions.push(name_of(alloc, name)?)?;
+        self.stage = AccessStage::Closed;
+        self.done.push(Access {
+            register,
+            length,
+            instructions,
+        })?;
+        Ok(())
+    }
+
+    // Behind a whole entry, the bytes behind the `,` at the front, where it stands there.
+    fn behind_entry<'a>(&mut self, bytes: &'a [u8]) -> &'a [u8]
+        requires { self.old.stage ≡ Closed }
+        ensures goes { c.through a.next_byte (a.view self.new) result.now ≡ c.through a.next_byte (a.view self.old) bytes.now }
+        ensures less { length result.now ≤ length bytes.now }
+    {
+        match behind_sign(bytes, b',') {
+            Some(behind) => {
+                self.stage = AccessStage::Entry;
+                behind
+            }
+            None => bytes,
+        }
+    }
+
+    // A register that stands whole at the front, and its first instruction where that does too. Answers the bytes behind what was read.
+    fn begun<'a>(
+        &mut self,
+        alloc: Global,
+        front: FrontRegister<'a>,
+    ) -> Result<&'a [u8], ContentFault>
+        requires between { a.view self.old ≡ a.with_entries self.old.done.items }
+        requires letters { list_all t.in_word front.word.now ≡ true }
+        ensures goes { IfOk result (λ behind. c.through a.next_byte (a.view self.new) behind.now ≡ c.through a.next_byte (a.with_opened (a.view self.old) front.entry.word.now front.entry.length) front.entry.behind.now) }
+        ensures less { IfOk result (λ behind. length behind.now ≤ length front.entry.behind.now) }
+        ensures fault { (read : Result a.Entries ℕ) → IfErr result (λ fault. c.Refuses fault read) }
+    {
+        let FrontRegister {
+            word,
+            length,
+            behind,
+        } = front;
+        if let Some(name) = front_name(behind) {
+            if name.is_last {
+                self.entered(alloc, word, length, name.word)?;
+                return Ok(self.behind_entry(name.behind));
+            }
+            self.opened(alloc, word, length)?;
+            self.named(alloc, name.word, false)?;
+            return Ok(name.behind);
+        }
+        self.opened(alloc, word, length)?;
+        Ok(behind)
+    }
+
     // A whole name, which may be the last of its entry.
     fn named(&mut self, alloc: Global, word: &[u8], is_last: bool) -> Result<(), ContentFault>
         requires { list_all t.in_word word.now ≡ true }
@@ -247,8 +319,8 @@ impl AccessReading {
     {
         if self.is_between() {
             if let Some(front) = front_register(bytes) {
-                self.opened(alloc, front.word, front.length)?;
-                return Ok(front.behind);
+                let behind = self.begun(alloc, front)?;
+                return Ok(behind);
             }
         }
         if self.awaits_name() {
