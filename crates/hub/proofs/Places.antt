@@ -10,7 +10,7 @@ use Rattle.plays.specs.Stands.{HubView}
 use Rattle.session_table.specs.Tables.{stand_at}
 use Rattle.hub.specs.Served.{admitted_at, where_free}
 
-pub some_none : {A B : Type 0} (a : A) → Some a ≡ None → B
+some_none : {A B : Type 0} (a : A) → Some a ≡ None → B
 some_none a is = absurd (let q : Some a ≡ None = is in cc)
 
 none_before : {A B : Type 0} (f : A → B) (o : Option A) → option_map f o ≡ None → o ≡ None

@@ -1,12 +1,12 @@
 -- What calls do to sessions that rest.
-use Rattle.std.proofs.Common.{◌≡◌, ◌≢◌, ◌==◌, ◌&&◌, cond, ℕ, ◌<◌, Bool, true, false, List, [], ◌∷◌, length, map, take, drop, ◌≤◌, refl, ap, sym, subst, ◌∙◌, arith, inl, inr, ◌⊎◌, length-take}
+use Rattle.std.proofs.Common.{◌≡◌, ◌≢◌, ◌==◌, ◌&&◌, ℕ, ◌<◌, Bool, true, false, List, [], ◌∷◌, length, map, take, refl, ap, sym, subst, ◌∙◌, arith, inl, inr, ◌⊎◌, length-take}
 use Rattle.std.specs.List.{slice_index_or, slice_set}
 use Rattle.std.specs.declared.option.Option.{Option}
 use Rattle.std.specs.declared.option.Option.TheVariants.{None, Some}
 use Rattle.std.specs.Result.{OnOk}
 use Rattle.std.specs.declared.result.Result.{Result}
 use Rattle.std.specs.declared.result.Result.TheVariants.{Ok, Err}
-use Rattle.std.proofs.lemmas.Bool.{cases_lt, eqb-true, eq-eqb}
+use Rattle.std.proofs.lemmas.Bool.{eqb-true, eq-eqb}
 use Rattle.std.proofs.lemmas.List.{get_or-set_same, get_or-set_other}
 use Rattle.base_types.specs.Tellings.{Told, Both}
 use Rattle.base_types.proofs.TellingLaws.{both_joined}
@@ -21,14 +21,13 @@ use Rattle.wire_port.specs.Calls.{after_give, after_take, after_shut}
 use Rattle.plays.specs.Plays.{SessionEnd}
 use Rattle.plays.specs.Stands.{HubView}
 use Rattle.plays.proofs.Lists.{not_eq, false_true}
-use Rattle.session_table.specs.Tables.{TableView, KeepsTable, WentOn, no_view, reply_at, stand_at, view_at, with_reply}
+use Rattle.session_table.specs.Tables.{TableView, KeepsTable, WentOn, no_view, stand_at, view_at}
 use Rattle.hub.specs.Served.{AreLeft, ConnsAreOpen, HasBegun, OnlyOf, OpensNow, SameSessions, conn_at, quieted, ready_as, serves_conn, settled, with_seats}
 use Rattle.hub.specs.Resting.{ComesToRest, HasNoMore, KeepsRest, OthersRest, OthersStay, Rests, RestsAt, RestsBut, names}
 use Rattle.hub.proofs.AfterCalls.{keeps_conn, quiet_same, settled_same}
 use Rattle.hub.proofs.Giving.{last_own}
-use Rattle.hub.proofs.SeatLists.{nothing_left}
-use Rattle.hub.proofs.Places.{place_fails, place_passes, some_none}
-use Rattle.hub.proofs.OnTheWire.{both_by, both_map, same_or, told_by}
+use Rattle.hub.proofs.Places.{place_fails, place_passes}
+use Rattle.hub.proofs.OnTheWire.{both_by, both_map, same_or}
 
 -- ---- how a session stands
 
@@ -38,14 +37,8 @@ going_not_free same = false_true (sym (ap is_taken same))
 leaving_not_going : (now : Stand) → (is_taken now ≡ true → is_leaving now ≡ true) → now ≢ stand.Going
 leaving_not_going now leaves is = false_true (sym (ap is_leaving is) ∙ leaves (ap is_taken is))
 
-line_not_going : (now : Stand) → is_in_line now ≡ true → now ≢ stand.Going
-line_not_going now line is = false_true (sym (ap is_in_line is) ∙ line)
-
-free_not_going : (now : Stand) → is_taken now ≡ false → now ≢ stand.Going
-free_not_going now free is = false_true (sym free ∙ ap is_taken is)
-
 -- who does not go on has nothing more to do
-pub no_more : (hub : HubView) (grant : ℕ) (wire : WireView) → stand_at hub grant ≢ stand.Going → HasNoMore hub grant wire
+no_more : (hub : HubView) (grant : ℕ) (wire : WireView) → stand_at hub grant ≢ stand.Going → HasNoMore hub grant wire
 no_more hub grant wire away = record { last = λ going. absurd (away going) }
 
 -- ---- the same sessions
@@ -149,7 +142,7 @@ told_no_more hub grant None away = tt
 told_no_more hub grant (Some wire) away = no_more hub grant wire away
 
 -- where this one has nothing more to do, all rest
-pub stay_comes : (old new : HubView) (grant : ℕ) (a b : Option WireView) → Both a b (OthersStay grant old new) → Told b (HasNoMore new grant) → Both a b (ComesToRest grant old new)
+stay_comes : (old new : HubView) (grant : ℕ) (a b : Option WireView) → Both a b (OthersStay grant old new) → Told b (HasNoMore new grant) → Both a b (ComesToRest grant old new)
 stay_comes old new grant None None stay own = tt
 stay_comes old new grant None (Some now) stay own = stay
 stay_comes old new grant (Some before) None stay own = stay
@@ -157,14 +150,10 @@ stay_comes old new grant (Some before) (Some now) stay own = record { all = λ r
 
 -- ---- one call after another
 
-pub stay_none : (grant : ℕ) (hub : HubView) (a : Option WireView) → Both a a (OthersStay grant hub hub)
-stay_none grant hub None = tt
-stay_none grant hub (Some wire) = record { others = λ rests. rests }
-
 pub stay_then : (grant : ℕ) (first second third : HubView) (a b d : Option WireView) → Both a b (OthersStay grant first second) → Both b d (OthersStay grant second third) → Both a d (OthersStay grant first third)
 stay_then grant first second third = both_joined (OthersStay grant first second) (OthersStay grant second third) (OthersStay grant first third) (λ old between new one two. record { others = λ rests. two.others (one.others rests) })
 
-pub comes_then : (grant : ℕ) (first second third : HubView) (a b d : Option WireView) → Both a b (OthersStay grant first second) → Both b d (ComesToRest grant second third) → Both a d (ComesToRest grant first third)
+comes_then : (grant : ℕ) (first second third : HubView) (a b d : Option WireView) → Both a b (OthersStay grant first second) → Both b d (ComesToRest grant second third) → Both a d (ComesToRest grant first third)
 comes_then grant first second third = both_joined (OthersStay grant first second) (ComesToRest grant second third) (ComesToRest grant first third) (λ old between new one two. record { all = λ rests. two.all (one.others rests) })
 
 pub comes_then_ok : {T E : Type 0} (grant : ℕ) (first second third : HubView) (a b d : Option WireView) (result : Result T E) → Both a b (OthersStay grant first second)
@@ -213,22 +202,6 @@ gave_short grant conn count reply old new a b conn_is same less = told_answered 
     is_short : last_of_give (length reply) (Answer.Bytes (take count reply)) ≡ Last.Short
     is_short = rw (not_eq (length (take count reply)) (length reply) (λ same. absurd (omega (arith, length-take count reply, same, less)))) refl
 
--- something is left of the reply
-pub some_left : {C : Type 0} (table given : TableView C) (grant count : ℕ) → grant < length table.hub.seats → given ≡ record table { hub = with_reply grant (drop count (reply_at table.hub grant)) table.hub }
-    → length (reply_at given.hub grant) ≢ 0 → count < length (reply_at table.hub grant)
-some_left table given grant count lt is some = by (cases_lt count (length (reply_at table.hub grant)))
-  where
-    left : reply_at given.hub grant ≡ drop count (reply_at table.hub grant)
-    left = ap (λ t. reply_at t.hub grant) is ∙ ap (λ view. view.session.reply) (get_or-set_same table.hub.seats grant (record (view_at table.hub grant) { session = record (view_at table.hub grant).session { reply = drop count (reply_at table.hub grant) } }) no_view lt)
-
-    by : (count < length (reply_at table.hub grant)) ⊎ (length (reply_at table.hub grant) ≤ count) → count < length (reply_at table.hub grant)
-    by (inl less) = less
-    by (inr all) = absurd (some (ap length left ∙ ap length (nothing_left (reply_at table.hub grant) count all)))
-
-pub gave_ready : {C : Type 0} (table given now : TableView C) (grant : ℕ) (reply : List ℕ) (flag : Bool) → given ≡ record table { hub = with_reply grant reply table.hub } → now ≡ ready_as (slice_set given.hub.ready grant flag) given
-    → (other : ℕ) → other ≢ grant → slice_index_or now.hub.ready other false ≡ slice_index_or table.hub.ready other false
-gave_ready table given now grant reply flag given_is now_is other ne = ap (λ t. slice_index_or t.hub.ready other false) now_is ∙ get_or-set_other given.hub.ready grant other flag false ne ∙ ap (λ t. slice_index_or t.hub.ready other false) given_is
-
 -- none went
 pub gave_not : (grant conn whole : ℕ) (old new : HubView) (a b : Option WireView) → conn ≡ conn_at old grant → SameSessions old new → Both a b (λ before now. now ≡ after_give conn whole Answer.NotNow before) → Told b (HasNoMore new grant)
 gave_not grant conn whole old new a b conn_is same = told_answered grant conn old new Last.Short (after_give conn whole Answer.NotNow) a b conn_is same short_not_other (λ wire. last_own conn Last.Short wire.last)
@@ -239,21 +212,6 @@ took_not grant conn old new a b conn_is same = told_answered grant conn old new 
 
 pub set_same : {C : Type 0} (now next : TableView C) (flags : List Bool) → next ≡ ready_as flags now → SameSessions now.hub next.hub
 set_same now next flags is = subst (λ table. SameSessions now.hub table.hub) (sym is) (record { stands = λ grant. refl; conns = λ grant. refl; line = refl })
-
--- ---- how a session is found to stand
-
-abbrev seat_of : ℕ → Stand → Option (ℕ × Stand)
-seat_of conn now = cond (is_taken now) (Some (conn, now)) None
-
-pub not_open : (hub : HubView) (grant conn : ℕ) → None ≡ seat_of conn (stand_at hub grant) → stand_at hub grant ≢ stand.Going
-not_open hub grant conn none going = let own : ℕ × Stand = (conn, stand.Going) in some_none own (sym (none ∙ ap (seat_of conn) going))
-
--- who is in line does not go on
-pub next_away : (hub : HubView) (grant : ℕ) → is_in_line (stand_at hub grant) ≡ true → stand_at hub grant ≢ stand.Going
-next_away hub grant = line_not_going (stand_at hub grant)
-
-pub set_away : {C : Type 0} (now next : TableView C) (flags : List Bool) (grant : ℕ) → next ≡ ready_as flags now → stand_at now.hub grant ≢ stand.Going → stand_at next.hub grant ≢ stand.Going
-set_away now next flags grant is away = subst (λ table. stand_at table.hub grant ≢ stand.Going) (sym is) away
 
 -- ---- the peer is gone
 

@@ -7,7 +7,7 @@ use Rattle.hub.specs.Served.{is_gone}
 use Rattle.hub.proofs.OnTheWire.{given_only, in_use_open, known_open, known_then}
 use Rattle.hub.proofs.Giving.{bytes_keep, lost_keeps, none_keeps, some_bytes}
 use Rattle.hub.proofs.Ends.{given_ends, lost_ends}
-use Rattle.hub.proofs.Resting.{gave_not, gave_short, only_stay, same_none, set_same, set_stay, stay_none, stay_then, told_no_more}
+use Rattle.hub.proofs.Resting.{gave_not, gave_short, only_stay, same_none, set_same, set_stay, stay_then, told_no_more}
 use Rattle.hub.proofs.sessions.Sessions.give.Goals as goal
 
 pub lose-requires-clause-conns : goal.lose-requires-clause-conns
