@@ -347,3 +347,25 @@ knows_after registers register place old new before is added =
           ∙ new_place (value_of old name) known entry name (before.lengths name) (before.places name)
           ∙ ap (λ (all : List NamedRegister). place_of_name all name) (sym pushed);
     }
+
+pub some_mapped : {V W : Type 0} (f : V → W) (found : Option V) → is_some (option_map f found) ≡ true → is_some found ≡ true
+some_mapped f None some = absurd (cc some)
+some_mapped f (Some value) some = refl
+
+-- a register that is known once more
+pub knows_still : (known : List NamedRegister) (given : List ℕ) (value : ℕ × ℕ) (old new : NameIndex (ℕ × ℕ)) → Knows known old → is_some (value_of old given) ≡ true
+    → ((name : List ℕ) → value_of new name ≡ option_or (value_of old name) (value_if (same_name name given) value))
+    → Knows known new
+knows_still known given value old new before some added =
+    let stays : (name : List ℕ) → value_of new name ≡ value_of old name = λ name. added name ∙ sym (known_stays (value_of old) given name value some) in
+    record {
+      lengths = λ name. ap (option_map (λ found. found.1)) (stays name) ∙ before.lengths name;
+      places = λ name. ap (λ found. unwrap_or (option_map (λ found. found.0) found) (length known)) (stays name) ∙ before.places name;
+    }
+
+-- a register that joins those known
+pub named_joined : (registers : List DataRegister) (register : DataRegister) (standard known : Bool) → standard ≡ false → known ≡ false
+    → named_of (registers ++ register ∷ []) ≡ (if standard || known then named_of registers else named_of registers ++ record { name = register.name; length = register.length } ∷ [])
+named_joined registers register true known apart new = absurd (cc apart)
+named_joined registers register false true apart new = absurd (cc new)
+named_joined registers register false false apart new = named-push registers register

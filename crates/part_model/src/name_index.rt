@@ -7,6 +7,7 @@ ghost use Rattle.part_model.specs.Parts as parts;
 use crate::names::same_name;
 use std::alloc::{AllocError, Global};
 use std::collections::BTreeMap;
+use std::collections::btree_map::Entry;
 
 // What stands in a slot: a name with its value, two of them, several names in the order of their hashes, where equal hashes are told
 // apart by the names, or nothing.
@@ -49,16 +50,27 @@ fn is_name(name: &str, kept: &str) -> bool
     same_name(name.as_bytes(), kept.as_bytes())
 }
 
-// A value for a name that has none yet, among several.
+// The value of a name among several. Where it has none, it has this one from now on.
 fn add_to<'a, V: Copy + Drop>(
     several: &mut BTreeMap<(u64, &'a str), V>,
     name: &'a str,
     value: V,
-) -> Result<(), AllocError>
-    ensures { OnOk result ((other : List ℕ) → indexes.value_among several.new other ≡ option_or (indexes.value_among several.old other) (if parts.same_name other name.now then Some value else None)) }
+) -> Result<Option<V>, AllocError>
+    ensures earlier { IfOk result (λ earlier. earlier ≡ indexes.value_among several.old name.now) }
+    ensures added { OnOk result ((other : List ℕ) → indexes.value_among several.new other ≡ option_or (indexes.value_among several.old other) (if parts.same_name other name.now then Some value else None)) }
 {
-    several.entry((hash(name), name))?.or_insert(value);
-    Ok(())
+    let entry = several.entry((hash(name), name))?;
+    match &entry {
+        Entry::Occupied(kept) => {
+            let earlier = *kept.get();
+            entry.or_insert(value);
+            Ok(Some(earlier))
+        }
+        Entry::Vacant(_) => {
+            entry.or_insert(value);
+            Ok(None)
+        }
+    }
 }
 
 // Three names with their values, of which the first counts where names are equal.
@@ -100,32 +112,34 @@ impl<'a, V: Copy + Drop> Slot<'a, V> {
         }
     }
 
-    // A value for a name that has none yet.
-    fn add(&mut self, alloc: Global, name: &'a str, value: V) -> Result<(), AllocError>
-        ensures { OnOk result ((other : List ℕ) → indexes.value_at self.new other ≡ option_or (indexes.value_at self.old other) (if parts.same_name other name.now then Some value else None)) }
+    // The value of a name. Where it has none, it has this one from now on.
+    fn add(&mut self, alloc: Global, name: &'a str, value: V) -> Result<Option<V>, AllocError>
+        ensures earlier { IfOk result (λ earlier. earlier ≡ indexes.value_at self.old name.now) }
+        ensures added { OnOk result ((other : List ℕ) → indexes.value_at self.new other ≡ option_or (indexes.value_at self.old other) (if parts.same_name other name.now then Some value else None)) }
     {
         match self {
             Slot::Empty => {
                 *self = Slot::One(name, value);
-                Ok(())
+                Ok(None)
             }
             Slot::One(kept, first) => {
-                if !is_name(name, kept) {
-                    *self = Slot::Two(kept, *first, name, value);
+                if is_name(name, kept) {
+                    return Ok(Some(*first));
                 }
-                Ok(())
+                *self = Slot::Two(kept, *first, name, value);
+                Ok(None)
             }
             Slot::Two(first, first_value, second, second_value) => {
                 if is_name(name, first) {
-                    return Ok(());
+                    return Ok(Some(*first_value));
                 }
                 if is_name(name, second) {
-                    return Ok(());
+                    return Ok(Some(*second_value));
                 }
                 let first = (*first, *first_value);
                 let second = (*second, *second_value);
                 *self = Slot::Several(three(alloc, first, second, (name, value))?);
-                Ok(())
+                Ok(None)
             }
             Slot::Several(several) => add_to(several, name, value),
         }
@@ -200,17 +214,19 @@ impl<'a, V: Copy + Drop> NameIndex<'a, V> {
         }
     }
 
-    // A value for a name that has none yet. The error comes where memory is wanting, or there is room for none.
+    // The value of a name. Where it has none, it has this one from now on. The error comes where memory is wanting, or there is room for
+    // no name.
     #[tactic(auto, unfolding(crate::specs::NameIndexes::value_of))]
-    pub fn add(&mut self, alloc: Global, name: &'a str, value: V) -> Result<(), AllocError>
-        ensures { OnOk result ((other : List ℕ) → indexes.value_of self.new other ≡ option_or (indexes.value_of self.old other) (if parts.same_name other name.now then Some value else None)) }
+    pub fn add(&mut self, alloc: Global, name: &'a str, value: V) -> Result<Option<V>, AllocError>
+        ensures earlier { IfOk result (λ earlier. earlier ≡ indexes.value_of self.old name.now) }
+        ensures added { OnOk result ((other : List ℕ) → indexes.value_of self.new other ≡ option_or (indexes.value_of self.old other) (if parts.same_name other name.now then Some value else None)) }
     {
         let at = place(name, self.slots.len());
         if at >= self.slots.len() {
             return Err(AllocError);
         }
-        self.slots[at].add(alloc, name, value)?;
-        Ok(())
+        let earlier = self.slots[at].add(alloc, name, value)?;
+        Ok(earlier)
     }
 }
 

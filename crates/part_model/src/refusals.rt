@@ -227,11 +227,10 @@ pub fn register_index_of<'a>(
     }
     let mut mentioned = instructions(alloc, plan.opcodes.as_slice())?;
     for access in plan.access.as_slice() {
-        let length = known.length_named(access.register.as_str());
+        let length = mention(alloc, &mut known, access)?;
         if let Some(refusal) = access_refusal(plan, &mut mentioned, length, access)? {
             return Err(refusal.into());
         }
-        mention(alloc, &mut known, length, access)?;
     }
     Ok(RegisterIndex { known, mentioned })
 }

@@ -17,7 +17,7 @@ loop-access-preserved c =
     let named : named_after (named_of c.mention.new.known.registers.items) rest ≡ named_after [] accesses = search rules in
     let none : c.in_ok-refusal.field-0 ≡ None = c.in_default.is in
     let before = subst (λ (left : List AccessEntry). Awaits left accesses c.loop-access.mentioned) here c.loop-access.invariant.5 in
-    (c.in_ok-mention.ensures.few, refusal, named, c.in_ok-mention.ensures.places, c.in_ok-refusal.ensures.lists, c.in_ok-refusal.ensures.awaits none rest accesses before)
+    (c.in_ok-length.ensures.few, refusal, named, c.in_ok-length.ensures.places, c.in_ok-refusal.ensures.lists, c.in_ok-refusal.ensures.awaits none rest accesses before)
 
 pub returns-clause-mentions : goal.returns-clause-mentions
 returns-clause-mentions c =

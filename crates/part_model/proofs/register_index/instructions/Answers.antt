@@ -13,7 +13,7 @@ loop-opcode-preserved c =
     let opcode = c.opcode-item.result in
     let rest = drop (c.loop-opcode.opcode-index + 1) c.args.opcodes.now in
     let here : drop c.loop-opcode.opcode-index c.args.opcodes.now ≡ opcode ∷ rest = grind (arith, common_steps) in
-    let added = rw c.as_str.ensures at c.in_ok-add.ensures in (
+    let added = rw c.as_str.ensures at c.in_ok-add.ensures.added in (
       λ name.
           one_listed (value_of c.loop-opcode.index name) (value_of c.add.new.self name) (same_name name opcode.name) (is_listed name (map (λ opcode. opcode.name) rest)) None (added name)
           ∙ ap (λ (left : List OpcodeEntry). is_some (value_of c.loop-opcode.index name) || is_listed name (map (λ opcode. opcode.name) left)) (sym here)
