@@ -1,5 +1,5 @@
 // Layouts at their limits, and of two small devices.
-ghost use Rattle.std.specs.Prelude.{◌≡◌, ◌<◌, true, length, IfOk};
+ghost use Rattle.std.specs.Prelude.{◌≡◌, ◌<◌, true, IfOk};
 ghost use Rattle.part_model.specs.Plans as plans;
 
 use crate::{Grant, Layout, LayoutRefusal, Net, Protocol, layout_fault};

@@ -1,26 +1,23 @@
 // The sessions of all grants, served over a wire.
-ghost use Rattle.std.specs.Prelude.{◌≡◌, ◌≢◌, ◌≤◌, ◌<◌, ◌+◌, ◌==◌, ℕ, [], ◌∷◌, true, false, not, length, map, drop, slice_set, IfOk, OnOk, OnErr};
+ghost use Rattle.std.specs.Prelude.{◌≡◌, ◌≢◌, ◌<◌, ◌+◌, ◌==◌, ℕ, [], ◌∷◌, true, false, not, length, drop, slice_set, OnOk, OnErr};
 ghost use Rattle.std.specs.List.{list_any};
 ghost use Rattle.std.specs.declared.option.Option.{Option};
 ghost use Rattle.std.specs.declared.option.Option.TheVariants.{None, Some};
 ghost use Rattle.base_types.specs.Counts.{HasCause};
 ghost use Rattle.base_types.specs.Tellings.{Told, Both};
 ghost use Rattle.client_session.specs.declared.Stand.TheVariants.{Free, Going};
-ghost use Rattle.client_session.specs.Sessions.{is_here, is_leaving, is_taken, view_wants};
+ghost use Rattle.client_session.specs.Sessions.{is_here};
 ghost use Rattle.plays.specs.Outcomes.{SeatsOpen};
-ghost use Rattle.plays.specs.Schedule.{is_drop, with_ready};
 ghost use Rattle.session_table.specs.Shown.{session_end};
-ghost use Rattle.session_table.specs.Tables.{stand_at, reply_at, view_at};
+ghost use Rattle.session_table.specs.Tables.{stand_at, view_at};
 ghost use Rattle.wire_port.specs.declared.wire.Found.TheVariants.{Opened};
-ghost use Rattle.wire_port.specs.Calls.{IsOpen, CanBeShut};
 ghost use Rattle.grant_table.specs.Layouts.{first_place};
-ghost use Rattle.hub.specs.Standing.{KeepsPlay, FollowsEvent, TookNow, GoneNow, FoundNow, StandsOnBut, EndsFollow, KeepsEnds};
+ghost use Rattle.hub.specs.Standing.{KeepsPlay, FollowsEvent, FoundNow, StandsOnBut, EndsFollow, KeepsEnds};
 ghost use Rattle.wire_port.specs.Wires.{WireView};
-ghost use Rattle.wire_port.specs.Offers.{Answer};
-ghost use Rattle.wire_port.specs.Calls.{after_give, IsWire};
-ghost use Rattle.plays.specs.Plays.{Setting, SessionEnd};
+ghost use Rattle.wire_port.specs.Calls.{IsWire};
+ghost use Rattle.plays.specs.Plays.{Setting};
 ghost use Rattle.grant_table.specs.Layouts.{grant_of};
-ghost use Rattle.hub.specs.Served.{HasBegun, HasShut, OpensIn, OpensNow, ShutsAfter, ShutsFor, admitted_at, serves_conn, AreWhole, AreCalm, AreFlagged, AreLeft, ConnIsOpen, ConnsAreOpen, KeepsMade, OnlyOf, OnlyOpened, SameSessions, conn_at, grants_of, is_gone, next_of, quieted, ready_as, settled, with_seats};
+ghost use Rattle.hub.specs.Served.{HasBegun, OpensIn, OpensNow, ShutsAfter, ShutsFor, admitted_at, serves_conn, AreWhole, AreCalm, ConnsAreOpen, KeepsMade, OnlyOpened};
 ghost use Rattle.hub.specs.Resting.{Rests, RestsBut, names};
 
 use crate::HubFault;

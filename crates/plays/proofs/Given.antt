@@ -11,7 +11,7 @@ use Rattle.wire_port.specs.Wires.{WireView, Last}
 use Rattle.wire_port.specs.Wires.Last.{NotNow, Short, Other}
 use Rattle.plays.specs.Plays.{Setting, Play, seat_at, no_seat, is_waiting, is_among, played}
 use Rattle.plays.specs.Alone.{conns_of, events, private, replies_in, replies_to, IsPrefix}
-use Rattle.plays.specs.Stands.{SeatView, HubView, GivenSo, EndedSo, EachEndedSo, LiveSo, SessionSo, SeatStands, SeatsStand, Stands}
+use Rattle.plays.specs.Stands.{SeatView, HubView, GivenSo, EachEndedSo, LiveSo, SessionSo, SeatStands, SeatsStand, Stands}
 use Rattle.plays.specs.Given.{TookAll, GivenAsAlone, SharedAsAlone, IsAtRest, AllGivenAsAlone}
 use Rattle.plays.proofs.Lists.{false_true, past_end, among-append}
 use Rattle.plays.proofs.Isolation.{as_alone}

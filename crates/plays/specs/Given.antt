@@ -1,7 +1,6 @@
 -- The promise of a shared chain, as it reads on a wire: what the peers of each grant are given, and what the devices hold.
-use Rattle.std.specs.Prelude.{ℕ, ◌≡◌, ◌≢◌, Bool, true, false, List}
+use Rattle.std.specs.Prelude.{ℕ, ◌≡◌, ◌≢◌, Bool, true, false}
 use Rattle.chain_model.specs.Chains.{ChainState}
-use Rattle.client_session.specs.Seats.{Seat}
 use Rattle.client_session.specs.Private.{is_live}
 use Rattle.wire_port.specs.Steps.{has_gone}
 use Rattle.wire_port.specs.Wires.{WireView}

@@ -1,13 +1,12 @@
 -- What one call of a hub brings about: on its wire, in the sessions that are ready, and in the schedule of a script.
-use Rattle.std.specs.Prelude.{ℕ, ◌≡◌, ◌≢◌, Bool, true, false, not, ◌&&◌, ◌==◌, List, [], ◌∷◌, if◌then◌else◌}
-use Rattle.std.specs.List.{list_any, slice_index_or}
+use Rattle.std.specs.Prelude.{ℕ, ◌≡◌, Bool, true, false, not, ◌&&◌, ◌==◌, List, [], ◌∷◌, if◌then◌else◌}
+use Rattle.std.specs.List.{list_any}
 use Rattle.client_session.specs.Sessions.{is_taken, is_leaving}
 use Rattle.wire_port.specs.Steps.{Step, opens, shuts, has_gone}
 use Rattle.wire_port.specs.Steps.Step.{Opened}
 use Rattle.wire_port.specs.Offers.{Peer, peer_of}
 use Rattle.wire_port.specs.Wires.{WireView}
-use Rattle.wire_port.specs.Wires.Last.{Other}
-use Rattle.plays.specs.Plays.{Setting, Play, SessionEnd, seat_at, is_among, is_waiting, change_by, played}
+use Rattle.plays.specs.Plays.{Setting, SessionEnd, is_among, change_by, played}
 use Rattle.plays.specs.Stands.{SeatView, HubView}
 use Rattle.plays.specs.Schedule.{Replay, is_drop, told, serve_conn, admitted_or_shut}
 

@@ -3,7 +3,7 @@
 
 ghost use Rattle.std.specs.Prelude.{◌≡◌, ◌<◌, ℕ, [], length, true};
 ghost use Rattle.client_session.specs.Turns.{gone_on};
-ghost use Rattle.plays.specs.Plays.{Setting, Play, played, start, go, after_turn, turn_at};
+ghost use Rattle.plays.specs.Plays.{Setting, Play, played, go, after_turn, turn_at};
 ghost use Rattle.plays.specs.Marks.{EachWaitsOneCaptureOfAnother, JoinsAreMarked};
 ghost use Rattle.chain_model.specs.Chains.{ChainState};
 ghost use Rattle.wire_port.specs.Steps.{opens_once};

@@ -1,5 +1,5 @@
 // The sessions of all grants, apart from the desk.
-ghost use Rattle.std.specs.Prelude.{◌≡◌, ◌≢◌, ◌≤◌, ◌<◌, ◌++◌, ℕ, List, Bool, [], ◌∷◌, true, false, length, map, take, drop, replicate, slice_set, Some, None, IfOk, IfErr, OnOk, OnErr, if◌then◌else◌, vec_capacity};
+ghost use Rattle.std.specs.Prelude.{◌≡◌, ◌≢◌, ◌≤◌, ◌<◌, ◌++◌, ℕ, List, [], true, false, length, map, drop, replicate, slice_set, Some, None, IfOk, IfErr, OnOk, OnErr, if◌then◌else◌, vec_capacity};
 ghost use Rattle.std.specs.List.{slice_index_or};
 ghost use Rattle.base_types.specs.Counts.{HasCause};
 ghost use Rattle.base_types.specs.Tellings.{Told};
@@ -10,7 +10,7 @@ ghost use Rattle.scan_share.specs.Scans.{IsWhole};
 ghost use Rattle.chain_token.specs.Tokens.{holder, waiting};
 ghost use Rattle.chain_token.specs.Waiting.{may_open, next_in_line};
 ghost use Rattle.client_session.specs.declared.Stand.TheVariants.{Free, Going};
-ghost use Rattle.client_session.specs.Private.{opened, received};
+ghost use Rattle.client_session.specs.Private.{received};
 ghost use Rattle.client_session.specs.Turns.{Turn};
 ghost use Rattle.client_session.specs.Desks.{cable_after, cable_of, cable_then};
 ghost use Rattle.client_session.specs.Calls.{CameOn, ServedBy};
