@@ -8,9 +8,7 @@ mod serving;
 mod sessions;
 
 pub use hub::Hub;
-pub use laws::{
-    a_hub_at_rest_has_nothing_to_do, a_hub_stands_for_its_play, polls_keep_the_play,
-};
+pub use laws::{a_hub_at_rest_has_nothing_to_do, a_hub_stands_for_its_play, polls_keep_the_play};
 
 /// A hub could not go on.
 #[derive(Clone, Copy, Debug, PartialEq, Eq)]

@@ -24,16 +24,16 @@ module _ (grant : ℕ) (old mid new : Seats) where
   pub ready_one : is_in_line (stands_at old grant) ≡ true → grant < length mid.ready.items → OthersStay grant old mid → mid.ready ≡ old.ready → SetsReady grant true mid new → EachReady old new
   ready_one waits below others same sets other going = elim (eqb_tells other grant) [
     | inl e ↦ record {
-        went = λ h. subst (λ g. slice_index_or new.ready.items g false ≡ true) (sym e.1)
-            (ap (λ xs. slice_index_or xs grant false) sets.ready ∙ get_or-set_same mid.ready.items grant true false below);
-        stayed = λ h. false_true (sym h ∙ subst (λ g. is_in_line (stands_at old g) ≡ true) (sym e.1) waits);
-      }
+      went = λ h. subst (λ g. slice_index_or new.ready.items g false ≡ true) (sym e.1)
+          (ap (λ xs. slice_index_or xs grant false) sets.ready ∙ get_or-set_same mid.ready.items grant true false below);
+      stayed = λ h. false_true (sym h ∙ subst (λ g. is_in_line (stands_at old g) ≡ true) (sym e.1) waits);
+    }
     | inr n ↦ record {
-        went = λ h. false_true (sym (ap is_in_line (still n.1)) ∙ h);
-        stayed = λ h.
-            ap (λ xs. slice_index_or xs other false) sets.ready ∙ get_or-set_other mid.ready.items grant other true false n.1
-            ∙ ap (λ (v : _). slice_index_or v.items other false) same;
-      }
+      went = λ h. false_true (sym (ap is_in_line (still n.1)) ∙ h);
+      stayed = λ h.
+          ap (λ xs. slice_index_or xs other false) sets.ready ∙ get_or-set_other mid.ready.items grant other true false n.1
+          ∙ ap (λ (v : _). slice_index_or v.items other false) same;
+    }
   ]
     where
       still : other ≢ grant → stands_at old other ≡ Stand.Going
@@ -82,5 +82,5 @@ module _ (old mid new : Seats) (earlier : ℕ) where
       let still : stands_at mid other ≡ Stand.Going = ap (λ (x : Entry). x.session.view.stand) (sym (ready_entry mid new only other)) ∙ going in
       let was = before other still in
       let same = ap (λ xs. slice_index_or xs other false) ready
-          ∙ unset_other (map (λ (e : Ended). e.grant) (drop earlier mid.ended.items)) mid.ready.items other (not_dropped earlier mid.ended.items other (fresh other mid fits (ap is_taken still))) in
+      ∙ unset_other (map (λ (e : Ended). e.grant) (drop earlier mid.ended.items)) mid.ready.items other (not_dropped earlier mid.ended.items other (fresh other mid fits (ap is_taken still))) in
       record { went = λ h. same ∙ was.went h; stayed = λ h. same ∙ was.stayed h }

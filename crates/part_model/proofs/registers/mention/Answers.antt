@@ -32,6 +32,6 @@ returns-clause-is c =
     let stated : c.unwrap_or-length.result ≡ length_or c.args.access.now.length 0 = search rules in
     let register : DataRegister = record { name = name; length = length_or c.args.access.now.length 0 } in
     let pushed = c.in_ok-push.ensures.items
-        ∙ ap (λ spelled. items ++ record { name = spelled; length = c.unwrap_or-length.result } ∷ []) c.in_ok-copy_name.ensures
-        ∙ ap (λ length. items ++ record { name = name; length = length } ∷ []) stated in
+    ∙ ap (λ spelled. items ++ record { name = spelled; length = c.unwrap_or-length.result } ∷ []) c.in_ok-copy_name.ensures
+    ∙ ap (λ length. items ++ record { name = name; length = length } ∷ []) stated in
     ap named_of pushed ∙ named_joined items register _ _ apart unknown
