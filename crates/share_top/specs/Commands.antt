@@ -1,4 +1,4 @@
--- What the commands `check` and `pipe`, and words that are neither, come to.
+-- What the commands come to by their words, `check`, `pipe` and `serve`, and words that are none.
 use Rattle.std.specs.Prelude.{◌≡◌, ◌⊎◌, ℕ, Bool, List, codes}
 use Rattle.std.specs.declared.option.Option.{Option}
 use Rattle.std.specs.declared.option.Option.TheVariants.{Some}
@@ -11,7 +11,7 @@ use Rattle.setup_read.specs.declared.setup.Setup.{Setup}
 use Rattle.share_top.specs.CheckRuns.{RunsCheck}
 use Rattle.share_top.specs.Outcomes.{IsCheckStatus, IsPipeStatus, IsStatus, Tells}
 use Rattle.share_top.specs.Pipes.{Faults, Fits, IsEndStatus, RunsPipe}
-use Rattle.share_top.specs.Serves.{IsServedStatus}
+use Rattle.share_top.specs.Serves.{CanServe, IsServeStatus, IsServedStatus, Outside, RunsServe, ServeFaults}
 use Rattle.share_top.specs.Setups.{LoadsListed}
 use Rattle.share_top.specs.Words.{IsGrantNumber, NoCheck, NoPipe, check_words, pipe_words}
 
@@ -61,6 +61,24 @@ pub record RunsLocal (words : List (List ℕ)) (status : ℕ) (trst : Bool) (old
   pub checked : (name : List ℕ) → words ≡ check_words name → ChecksSo status name old new
   pub piped : (name : List ℕ) (number : ℕ) → IsGrantNumber number → words ≡ pipe_words name number → PipesSo status name number trst old new
   pub others : NoCheck words → NoPipe words → TellsWords status old new
+
+-- what `serve` sees of the outside: the files of the shelf and what was loaded of them, the bench, the wire and what went out, and the counts of
+-- faults
+pub record AroundServe : Type 0 where
+  pub files : Option (List NamedBytes)
+  pub loads : List Load
+  pub outside : Outside
+  pub faults : ServeFaults
+
+-- `serve SETUP`: the sessions that were served, or why there were none; and what was loaded. Where the files say a setup which the cable can serve,
+-- no count rose and memory was not wanting, it is served to the end
+pub record ServesSo (status : ℕ) (name : List ℕ) (trst : Bool) (old new : AroundServe) : Type 0 where
+  pub ran : RunsServe status old.files name trst old.outside new.outside old.faults new.faults
+  pub loaded : LoadsListed old.loads new.loads name
+  pub status_is : IsServeStatus status
+  pub ends : (setup : Setup) (told : List NamedBytes) → old.files ≡ Some told → CanServe (Some told) name trst setup
+      → (Rose old.faults.shelf new.faults.shelf → ⊥) → (Rose old.faults.poller new.faults.poller → ⊥) → (Rose old.faults.cable new.faults.cable → ⊥) → (Rose old.faults.sink new.faults.sink → ⊥)
+      → (status ≡ 0) ⊎ (status ≡ 9)
 
 -- the statuses of all commands
 abbrev pub IsRunStatus : ℕ → Type 0

@@ -1,14 +1,12 @@
 // The command `serve` by its words.
-ghost use Rattle.std.specs.Prelude.{◌≡◌, ◌⊎◌, ℕ, List, [], codes, map};
+ghost use Rattle.std.specs.Prelude.{◌≡◌, ℕ, List, [], codes, map};
 ghost use Rattle.std.specs.declared.option.Option.TheVariants.{Some};
 ghost use Rattle.std.specs.String.{string_bytes};
-ghost use Rattle.base_types.specs.Counts.{Rose};
 ghost use Rattle.base_types.specs.Tellings.{Told};
 ghost use Rattle.chain_model.specs.Cables.{empty_chain};
-ghost use Rattle.ports.specs.Shelves.{NamedBytes};
-ghost use Rattle.setup_read.specs.declared.setup.Setup.{Setup};
+ghost use Rattle.share_top.specs.Commands.{ServesSo};
 ghost use Rattle.share_top.specs.Outcomes.{Counts, Tells};
-ghost use Rattle.share_top.specs.Serves.{CanServe, HasNoSteps, IsServeStatus, IsServedStatus, RunsServe};
+ghost use Rattle.share_top.specs.Serves.{HasNoSteps, IsServedStatus, RunsServe};
 ghost use Rattle.share_top.specs.Setups.{LoadsListed};
 ghost use Rattle.share_top.specs.Words.{NoServe, serve_words};
 
@@ -99,19 +97,10 @@ pub fn serve_command<R: Wait, B: Bench, S: Shelf, O: Sink, W: Poller>(
     requires once { (W.door wire).ports ≡ [] }
     requires unstepped { Told (W.told wire) HasNoSteps }
 
-    // `serve SETUP`: the sessions that were served, or why there were none; and what was loaded.
-    ensures served { (name : List ℕ) → map string_bytes words.now ≡ serve_words name → RunsServe result.status (S.files shelf.old) name (B.trst bench)
-        (record { chain = B.chain bench; wire = W.told wire; door = W.door wire; sent = O.sent out })
-        (record { chain = B.chain result.bench; wire = W.told result.wire; door = W.door result.wire; sent = O.sent result.out })
-        (record { shelf = S.fault_count shelf.old; poller = W.fault_count wire; cable = B.fault_count bench; sink = O.fault_count out })
-        (record { shelf = S.fault_count shelf.new; poller = W.fault_count result.wire; cable = B.fault_count result.bench; sink = O.fault_count result.out }) }
-    ensures listed { (name : List ℕ) → map string_bytes words.now ≡ serve_words name → LoadsListed (S.loads shelf.old) (S.loads shelf.new) name × IsServeStatus result.status }
-
-    // Where the files say a setup which the cable can serve, no count rose and memory was not wanting, it is served to the end.
-    ensures well { (name : List ℕ) (setup : Setup) (told : List NamedBytes) → map string_bytes words.now ≡ serve_words name
-        → S.files shelf.old ≡ Some told → CanServe (Some told) name (B.trst bench) setup → (Rose (S.fault_count shelf.old) (S.fault_count shelf.new) → ⊥)
-        → (Rose (W.fault_count wire) (W.fault_count result.wire) → ⊥) → (Rose (B.fault_count bench) (B.fault_count result.bench) → ⊥) → (Rose (O.fault_count out) (O.fault_count result.out) → ⊥)
-        → (result.status ≡ 0) ⊎ (result.status ≡ 9) }
+    // `serve SETUP`: the sessions that were served to the end, or why they were not; and what was loaded.
+    ensures served { (name : List ℕ) → map string_bytes words.now ≡ serve_words name → ServesSo result.status name (B.trst bench)
+        (record { files = S.files shelf.old; loads = S.loads shelf.old; outside = record { chain = B.chain bench; wire = W.told wire; door = W.door wire; sent = O.sent out }; faults = record { shelf = S.fault_count shelf.old; poller = W.fault_count wire; cable = B.fault_count bench; sink = O.fault_count out } })
+        (record { files = S.files shelf.new; loads = S.loads shelf.new; outside = record { chain = B.chain result.bench; wire = W.told result.wire; door = W.door result.wire; sent = O.sent result.out }; faults = record { shelf = S.fault_count shelf.new; poller = W.fault_count result.wire; cable = B.fault_count result.bench; sink = O.fault_count result.out } }) }
 
     // All other words are told, and then nothing else is done.
     ensures others { NoServe (map string_bytes words.now) → Tells 2 (codes "words\n") result.status (O.sent out) (O.sent result.out) (O.fault_count out) (O.fault_count result.out) }
