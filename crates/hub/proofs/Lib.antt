@@ -15,4 +15,5 @@ pub mod Openings
 pub mod Events
 pub mod Ends
 pub mod AtRest
+pub mod Rounds
 pub mod Resting

@@ -14,11 +14,12 @@ use Rattle.base_types.proofs.TellingLaws.{both_joined}
 use Rattle.client_session.specs.declared.Stand.{Stand}
 use Rattle.client_session.specs.declared.Stand.TheVariants as stand
 use Rattle.client_session.specs.Sessions.{is_taken}
-use Rattle.wire_port.specs.Steps.{Step, opens, shuts, has_gone, is_gone_step}
+use Rattle.wire_port.specs.Steps.{Step, opens, shuts, has_gone, is_gone_step, taken_from}
 use Rattle.wire_port.specs.Steps.Step.{Opened, Took, Gone, Shut}
 use Rattle.wire_port.specs.Offers.{Answer}
 use Rattle.wire_port.specs.Wires.{WireView, Last}
 use Rattle.wire_port.specs.Calls.{IsOpen, CanBeShut, after_give, after_take, after_shut, with_last}
+use Rattle.wire_port.proofs.Stepping.{taken_behind}
 use Rattle.plays.specs.Plays.{SessionEnd, is_among}
 use Rattle.plays.specs.Stands.{HubView}
 use Rattle.plays.proofs.Lists.{not_eq, false_true}
@@ -71,6 +72,7 @@ only_snoc conn step old new apart is stays = record {
   shut = λ other ne. ap (shuts other) is ∙ shuts-snoc other old.steps step ∙ ap (λ n. shuts other old.steps + n) (apart other ne).shut ∙ plus_zero (shuts other old.steps);
   gone = λ other ne. ap (has_gone other) is ∙ list_any-append (is_gone_step other) old.steps (step ∷ []) ∙ rw ((apart other ne).gone) (or_false (has_gone other old.steps));
   last = stays;
+  taken = λ other. omega (arith, ap (taken_from other) is, taken_behind other old.steps step);
 }
   where
     plus_zero : (n : ℕ) → n + 0 ≡ n
@@ -92,6 +94,7 @@ only_same conn old new is stays = record {
   shut = λ other ne. ap (shuts other) is;
   gone = λ other ne. ap (has_gone other) is;
   last = stays;
+  taken = λ other. omega (arith, ap (taken_from other) is);
 }
 
 pub only_then : (conn : ℕ) (old between new : WireView) → OnlyOf conn old between → OnlyOf conn between new → OnlyOf conn old new
@@ -101,6 +104,7 @@ only_then conn old between new one two = record {
   shut = λ other ne. two.shut other ne ∙ one.shut other ne;
   gone = λ other ne. two.gone other ne ∙ one.gone other ne;
   last = λ other ne. two.last other ne ∙ one.last other ne;
+  taken = λ other. omega (arith, one.taken other, two.taken other);
 }
 
 pub only_given : (conn whole : ℕ) (answer : Answer) (old : WireView) → OnlyOf conn old (after_give conn whole answer old)
@@ -344,6 +348,7 @@ of_opened conn old new open_now only = record {
   opened = λ other unknown. only.opened other (apart other unknown) ∙ unknown;
   shut = λ other unknown. only.shut other (apart other unknown);
   gone = λ other unknown. only.gone other (apart other unknown);
+  taken = only.taken;
 }
   where
     apart : (other : ℕ) → list_any (opens other) old.steps ≡ false → other ≢ conn
@@ -359,11 +364,12 @@ known_then = both_joined OnlyOpened OnlyOpened OnlyOpened (λ old between new on
   opened = λ conn unknown. two.opened conn (one.opened conn unknown);
   shut = λ conn unknown. two.shut conn (one.opened conn unknown) ∙ one.shut conn unknown;
   gone = λ conn unknown. two.gone conn (one.opened conn unknown) ∙ one.gone conn unknown;
+  taken = λ conn. omega (arith, one.taken conn, two.taken conn);
 })
 
 pub known_same : (a : Option WireView) → Both a a OnlyOpened
 known_same None = tt
-known_same (Some old) = record { kept = λ conn known. known; opened = λ conn unknown. unknown; shut = λ conn unknown. refl; gone = λ conn unknown. refl }
+known_same (Some old) = record { kept = λ conn known. known; opened = λ conn unknown. unknown; shut = λ conn unknown. refl; gone = λ conn unknown. refl; taken = λ conn. omega arith }
 
 pub known_open : (conn : ℕ) (gone : Bool) (a b : Option WireView) → Told a (λ wire. ConnIsOpen wire conn gone) → Both a b (OnlyOf conn) → Both a b OnlyOpened
 known_open conn gone None None is only = tt

@@ -12,7 +12,7 @@ use Rattle.base_types.specs.Tellings.{Told, Both}
 use Rattle.base_types.proofs.TellingLaws.{both_joined}
 use Rattle.client_session.specs.declared.Stand.{Stand}
 use Rattle.client_session.specs.declared.Stand.TheVariants as stand
-use Rattle.client_session.specs.Sessions.{is_in_line, is_leaving, is_taken}
+use Rattle.client_session.specs.Sessions.{is_here, is_in_line, is_leaving, is_taken}
 use Rattle.grant_table.specs.Layouts.{first_place}
 use Rattle.wire_port.specs.declared.wire.Found.{Found}
 use Rattle.wire_port.specs.Offers.{Answer}
@@ -25,7 +25,9 @@ use Rattle.session_table.specs.Tables.{TableView, KeepsTable, WentOn, no_view, s
 use Rattle.hub.specs.Served.{AreLeft, ConnsAreOpen, HasBegun, OnlyOf, OpensNow, SameSessions, conn_at, quieted, ready_as, serves_conn, settled, with_seats}
 use Rattle.hub.specs.Resting.{ComesToRest, HasNoMore, KeepsRest, OthersRest, OthersStay, Rests, RestsAt, RestsBut, names}
 use Rattle.hub.proofs.AfterCalls.{keeps_conn, quiet_same, settled_same}
+use Rattle.hub.specs.Rounds.{IsUntouched}
 use Rattle.hub.proofs.Giving.{last_own}
+use Rattle.hub.proofs.Rounds.{here_not_going, set_untouched, untouched_none, untouched_same, untouched_then, went_untouched}
 use Rattle.hub.proofs.Places.{place_fails, place_passes}
 use Rattle.hub.proofs.OnTheWire.{both_by, both_map, same_or}
 
@@ -34,8 +36,11 @@ use Rattle.hub.proofs.OnTheWire.{both_by, both_map, same_or}
 going_not_free : stand.Going ≢ stand.Free
 going_not_free same = false_true (sym (ap is_taken same))
 
-leaving_not_going : (now : Stand) → (is_taken now ≡ true → is_leaving now ≡ true) → now ≢ stand.Going
-leaving_not_going now leaves is = false_true (sym (ap is_leaving is) ∙ leaves (ap is_taken is))
+leaving_not_here : (now : Stand) → (is_taken now ≡ true → is_leaving now ≡ true) → is_here now ≡ false
+leaving_not_here stand.Free leaves = refl
+leaving_not_here stand.Leaving leaves = refl
+leaving_not_here stand.Going leaves = false_true (leaves refl)
+leaving_not_here stand.Waits leaves = false_true (leaves refl)
 
 -- who does not go on has nothing more to do
 no_more : (hub : HubView) (grant : ℕ) (wire : WireView) → stand_at hub grant ≢ stand.Going → HasNoMore hub grant wire
@@ -49,23 +54,30 @@ same_rest old new wire grant same ready rests going unready =
 
 pub keep_none : (hub : HubView) (a : Option WireView) → Both a a (KeepsRest hub hub)
 keep_none hub None = tt
-keep_none hub (Some wire) = record { each = λ grant rests. rests }
+keep_none hub (Some wire) = record { each = λ grant rests. rests; untouched = untouched_none hub }
 
 pub keep_then : (first second third : HubView) (a b d : Option WireView) → Both a b (KeepsRest first second) → Both b d (KeepsRest second third) → Both a d (KeepsRest first third)
-keep_then first second third = both_joined (KeepsRest first second) (KeepsRest second third) (KeepsRest first third) (λ old between new one two. record { each = λ grant rests. two.each grant (one.each grant rests) })
+keep_then first second third = both_joined (KeepsRest first second) (KeepsRest second third) (KeepsRest first third) (λ old between new one two. record {
+  each = λ grant rests. two.each grant (one.each grant rests);
+  untouched = λ grant. untouched_then first second third grant (one.untouched grant) (two.untouched grant);
+})
 
 -- ---- a session that ended is let go
 
 let_rest : (hub : HubView) (gone : List Bool) (ended : SessionEnd) (left : List SessionEnd) (flags : List Bool) (old new : WireView)
     → AreLeft hub (ended ∷ left) → ConnsAreOpen hub gone (ended ∷ left) old → OnlyOf ended.conn old new
     → KeepsRest (record hub { ready = flags }) (record hub { ready = slice_set flags ended.grant false }) old new
-let_rest hub gone ended left flags old new are conns only = record { each = one }
+let_rest hub gone ended left flags old new are conns only = record { each = one; untouched = still }
   where
     other : (grant : ℕ) → stand_at hub grant ≡ stand.Going → grant ≢ ended.grant
     other grant going same = going_not_free (sym going ∙ ap (stand_at hub) same ∙ are.free.0.free)
 
     apart : (grant : ℕ) → stand_at hub grant ≡ stand.Going → conn_at hub grant ≢ ended.conn
     apart grant going same = other grant going (conns.once grant ended.grant (inl (ap is_taken going)) (inr (rw (eq-eqb ended.grant ended.grant refl) refl)) (same ∙ are.free.0.conn))
+
+    still : (grant : ℕ) → IsUntouched (record hub { ready = flags }) (record hub { ready = slice_set flags ended.grant false }) grant
+    still grant = untouched_same (record hub { ready = flags }) (record hub { ready = slice_set flags ended.grant false }) grant (record { stands = λ g. refl; conns = λ g. refl; line = refl })
+        (λ going. get_or-set_other flags ended.grant grant false false (other grant going))
 
     one : (grant : ℕ) → RestsAt (record hub { ready = flags }) old grant → RestsAt (record hub { ready = slice_set flags ended.grant false }) new grant
     one grant rests going unready = subst (λ last. last ≢ Last.Other) (sym (only.last (conn_at hub grant) (apart grant going)))
@@ -85,6 +97,8 @@ let_rests first now next flags gone list left ended a b now_is next_is list_is a
 pub quiet_rests : {C : Type 0} (first between new : TableView C) (a b : Option WireView) → new ≡ with_seats (map quieted between.hub.seats) between → Both a b (KeepsRest first.hub between.hub) → Both a b (KeepsRest first.hub new.hub)
 quiet_rests first between new a b is keeps = subst (λ table. Both a b (KeepsRest first.hub table.hub)) (sym is) (both_map a b keeps (λ old now one. record {
   each = λ grant rests. same_rest between.hub (with_seats (map quieted between.hub.seats) between).hub now grant (quiet_same between) refl (one.each grant rests);
+  untouched = λ grant. untouched_then first.hub between.hub (with_seats (map quieted between.hub.seats) between).hub grant (one.untouched grant)
+      (untouched_same between.hub (with_seats (map quieted between.hub.seats) between).hub grant (quiet_same between) (λ going. refl));
 }))
 
 -- ---- a call of the table
@@ -98,11 +112,14 @@ went_rest grant flag old new wire kept went rests other ne going unready = by (i
         (rests other ne (sym (ap (λ view. view.session.stand) (went.others other ne line)) ∙ going) (sym ((went.ready other ne going).stayed line) ∙ unready))
 
 pub went_stay : (grant : ℕ) (flag : Bool) (old between new : HubView) (a b : Option WireView) → KeepsTable old between → WentOn grant flag old between → Both a b (KeepsRest between new) → Both a b (OthersStay grant old new)
-went_stay grant flag old between new a b kept went keeps = both_map a b keeps (λ before now one. record { others = λ rests other ne. one.each other (went_rest grant flag old between before kept went rests other ne) })
+went_stay grant flag old between new a b kept went keeps = both_map a b keeps (λ before now one. record {
+  others = λ rests other ne. one.each other (went_rest grant flag old between before kept went rests other ne);
+  untouched = λ other ne. untouched_then old between new other (went_untouched grant flag old between other kept went ne) (one.untouched other);
+})
 
--- whose peer is gone does not go on
-pub gone_away : {C : Type 0} (grant earlier : ℕ) (old : HubView) (table now : TableView C) → WentOn grant true old table.hub → now ≡ settled earlier table → stand_at now.hub grant ≢ stand.Going
-gone_away grant earlier old table now went is = leaving_not_going (stand_at now.hub grant) (subst (λ t. is_taken (stand_at t.hub grant) ≡ true → is_leaving (stand_at t.hub grant) ≡ true) (sym is)
+-- whose peer is gone is not here any more
+pub gone_away : {C : Type 0} (grant earlier : ℕ) (old : HubView) (table now : TableView C) → WentOn grant true old table.hub → now ≡ settled earlier table → is_here (stand_at now.hub grant) ≡ false
+gone_away grant earlier old table now went is = leaving_not_here (stand_at now.hub grant) (subst (λ t. is_taken (stand_at t.hub grant) ≡ true → is_leaving (stand_at t.hub grant) ≡ true) (sym is)
     (λ taken. ap is_leaving ((settled_same table earlier).stands grant) ∙ went.own (sym (ap is_taken ((settled_same table earlier).stands grant)) ∙ taken)))
 
 -- ---- a session is said to be ready, or not to be
@@ -112,7 +129,10 @@ set_others now next grant flag wire is rests = subst (λ table. OthersRest grant
 
 pub set_stay : {C : Type 0} (old : HubView) (now next : TableView C) (grant : ℕ) (flag : Bool) (a b : Option WireView) → next ≡ ready_as (slice_set now.hub.ready grant flag) now
     → Both a b (OthersStay grant old now.hub) → Both a b (OthersStay grant old next.hub)
-set_stay old now next grant flag a b is stay = both_map a b stay (λ before after one. record { others = λ rests. set_others now next grant flag after is (one.others rests) })
+set_stay old now next grant flag a b is stay = both_map a b stay (λ before after one. record {
+  others = λ rests. set_others now next grant flag after is (one.others rests);
+  untouched = λ other ne. untouched_then old now.hub next.hub other (one.untouched other ne) (set_untouched now next grant other flag is ne);
+})
 
 all_rest : (hub : HubView) (grant : ℕ) (wire : WireView) → OthersRest grant hub wire → RestsAt hub wire grant → Rests hub wire
 all_rest hub grant wire others own other = by (same_or other grant)
@@ -135,7 +155,10 @@ pub set_comes : {C : Type 0} (old : HubView) (now next : TableView C) (grant : �
 set_comes old now next grant flag None None is lt stay own = tt
 set_comes old now next grant flag None (Some new) is lt stay own = stay
 set_comes old now next grant flag (Some before) None is lt stay own = stay
-set_comes old now next grant flag (Some before) (Some new) is lt stay own = record { all = λ rests. set_rest now next grant flag new is lt (stay.others rests) own }
+set_comes old now next grant flag (Some before) (Some new) is lt stay own = record {
+  all = λ rests. set_rest now next grant flag new is lt (stay.others rests) own;
+  untouched = λ other ne. untouched_then old now.hub next.hub other (stay.untouched other ne) (set_untouched now next grant other flag is ne);
+}
 
 pub told_no_more : (hub : HubView) (grant : ℕ) (a : Option WireView) → stand_at hub grant ≢ stand.Going → Told a (HasNoMore hub grant)
 told_no_more hub grant None away = tt
@@ -146,15 +169,21 @@ stay_comes : (old new : HubView) (grant : ℕ) (a b : Option WireView) → Both 
 stay_comes old new grant None None stay own = tt
 stay_comes old new grant None (Some now) stay own = stay
 stay_comes old new grant (Some before) None stay own = stay
-stay_comes old new grant (Some before) (Some now) stay own = record { all = λ rests. all_rest new grant now (stay.others rests) (λ going unready. own.last going) }
+stay_comes old new grant (Some before) (Some now) stay own = record { all = λ rests. all_rest new grant now (stay.others rests) (λ going unready. own.last going); untouched = stay.untouched }
 
 -- ---- one call after another
 
 pub stay_then : (grant : ℕ) (first second third : HubView) (a b d : Option WireView) → Both a b (OthersStay grant first second) → Both b d (OthersStay grant second third) → Both a d (OthersStay grant first third)
-stay_then grant first second third = both_joined (OthersStay grant first second) (OthersStay grant second third) (OthersStay grant first third) (λ old between new one two. record { others = λ rests. two.others (one.others rests) })
+stay_then grant first second third = both_joined (OthersStay grant first second) (OthersStay grant second third) (OthersStay grant first third) (λ old between new one two. record {
+  others = λ rests. two.others (one.others rests);
+  untouched = λ other ne. untouched_then first second third other (one.untouched other ne) (two.untouched other ne);
+})
 
 comes_then : (grant : ℕ) (first second third : HubView) (a b d : Option WireView) → Both a b (OthersStay grant first second) → Both b d (ComesToRest grant second third) → Both a d (ComesToRest grant first third)
-comes_then grant first second third = both_joined (OthersStay grant first second) (ComesToRest grant second third) (ComesToRest grant first third) (λ old between new one two. record { all = λ rests. two.all (one.others rests) })
+comes_then grant first second third = both_joined (OthersStay grant first second) (ComesToRest grant second third) (ComesToRest grant first third) (λ old between new one two. record {
+  all = λ rests. two.all (one.others rests);
+  untouched = λ other ne. untouched_then first second third other (one.untouched other ne) (two.untouched other ne);
+})
 
 pub comes_then_ok : {T E : Type 0} (grant : ℕ) (first second third : HubView) (a b d : Option WireView) (result : Result T E) → Both a b (OthersStay grant first second)
     → OnOk result (Both b d (ComesToRest grant second third)) → OnOk result (Both a d (ComesToRest grant first third))
@@ -172,7 +201,10 @@ only_rest grant conn old new gone before now taken conn_is same ready conns only
 
 pub only_stay : (grant conn : ℕ) (old new : HubView) (gone : List Bool) (a b : Option WireView) → is_taken (stand_at old grant) ≡ true → conn ≡ conn_at old grant → SameSessions old new
     → ((other : ℕ) → other ≢ grant → slice_index_or new.ready other false ≡ slice_index_or old.ready other false) → Told a (ConnsAreOpen old gone []) → Both a b (OnlyOf conn) → Both a b (OthersStay grant old new)
-only_stay grant conn old new gone a b taken conn_is same ready conns only = both_by a b conns only (λ before now open_now one. record { others = only_rest grant conn old new gone before now taken conn_is same ready open_now one })
+only_stay grant conn old new gone a b taken conn_is same ready conns only = both_by a b conns only (λ before now open_now one. record {
+  others = only_rest grant conn old new gone before now taken conn_is same ready open_now one;
+  untouched = λ other ne. untouched_same old new other same (λ going. ready other ne);
+})
 
 pub same_none : (hub : HubView) → SameSessions hub hub
 same_none hub = record { stands = λ grant. refl; conns = λ grant. refl; line = refl }
@@ -216,8 +248,8 @@ set_same now next flags is = subst (λ table. SameSessions now.hub table.hub) (s
 -- ---- the peer is gone
 
 pub lost_comes_ok : {T E : Type 0} (grant : ℕ) (first second third : HubView) (a b d : Option WireView) (result : Result T E) → Both a b (OthersStay grant first second)
-    → OnOk result (Both b d (OthersStay grant second third)) → OnOk result (stand_at third grant ≢ stand.Going) → OnOk result (Both a d (ComesToRest grant first third))
-lost_comes_ok grant first second third a b d (Ok x) one two away = stay_comes first third grant a d (stay_then grant first second third a b d one two) (told_no_more third grant d away)
+    → OnOk result (Both b d (OthersStay grant second third)) → OnOk result (is_here (stand_at third grant) ≡ false) → OnOk result (Both a d (ComesToRest grant first third))
+lost_comes_ok grant first second third a b d (Ok x) one two away = stay_comes first third grant a d (stay_then grant first second third a b d one two) (told_no_more third grant d (here_not_going (stand_at third grant) away))
 lost_comes_ok grant first second third a b d (Err e) one two away = tt
 
 -- ---- all sessions

@@ -1,4 +1,4 @@
--- Sessions that rest: none is ready, and the peer of each that does not wait has nothing to bring now, or takes no more.
+-- Sessions that rest: the peer of each that neither waits nor is ready has nothing to bring now, or takes no more.
 use Rattle.std.specs.Prelude.{ℕ, ◌≡◌, ◌≢◌, ◌==◌, Bool, false}
 use Rattle.std.specs.List.{slice_index_or}
 use Rattle.client_session.specs.declared.Stand.{Stand}
@@ -8,6 +8,7 @@ use Rattle.wire_port.specs.declared.wire.Found.TheVariants as found
 use Rattle.plays.specs.Stands.{HubView}
 use Rattle.session_table.specs.Tables.{stand_at}
 use Rattle.hub.specs.Served.{conn_at}
+use Rattle.hub.specs.Rounds.{IsUntouched}
 
 -- where a grant's session is open, does not wait and is not ready: the last answer of its connection was that nothing is there to take, or that not
 -- all could be given
@@ -39,14 +40,17 @@ names _ other = false
 
 -- ---- what calls keep
 
--- each grant that rested rests
+-- each grant that rested rests, and none is touched
 pub record KeepsRest (old new : HubView) (before now : WireView) : Type 0 where
   pub each : (grant : ℕ) → RestsAt old before grant → RestsAt new now grant
+  pub untouched : (grant : ℕ) → IsUntouched old new grant
 
--- where all other grants rested, they rest
+-- where all other grants rested, they rest; none of them is touched
 pub record OthersStay (grant : ℕ) (old new : HubView) (before now : WireView) : Type 0 where
   pub others : OthersRest grant old before → OthersRest grant new now
+  pub untouched : (other : ℕ) → other ≢ grant → IsUntouched old new other
 
--- where all other grants rested, all rest
+-- where all other grants rested, all rest; none of the others is touched
 pub record ComesToRest (grant : ℕ) (old new : HubView) (before now : WireView) : Type 0 where
   pub all : OthersRest grant old before → Rests new now
+  pub untouched : (other : ℕ) → other ≢ grant → IsUntouched old new other

@@ -1,5 +1,5 @@
 -- The sessions of a hub while they are served: which of their peers are gone, and which connections of the wire are open.
-use Rattle.std.specs.Prelude.{ℕ, ◌≡◌, ◌⊎◌, Bool, true, false, List, [], ◌∷◌, map, drop, length, ◌&&◌, ◌==◌, ◌++◌, ◌+◌, ◌<◌, ◌≢◌, if◌then◌else◌}
+use Rattle.std.specs.Prelude.{ℕ, ◌≡◌, ◌⊎◌, Bool, true, false, List, [], ◌∷◌, map, drop, length, ◌&&◌, ◌==◌, ◌++◌, ◌+◌, ◌<◌, ◌≤◌, ◌≢◌, if◌then◌else◌}
 use Rattle.std.specs.List.{list_any, slice_index_or}
 use Rattle.std.specs.Option.{is_some}
 use Rattle.std.specs.declared.option.Option.{Option}
@@ -7,7 +7,7 @@ use Rattle.std.specs.declared.option.Option.TheVariants.{None, Some}
 use Rattle.grant_table.specs.Layouts.{grant_of}
 use Rattle.client_session.specs.declared.Stand.{Stand}
 use Rattle.client_session.specs.Sessions.{is_here, is_leaving, is_taken}
-use Rattle.wire_port.specs.Steps.{Step, opens, shuts, has_gone}
+use Rattle.wire_port.specs.Steps.{Step, opens, shuts, has_gone, taken_from}
 use Rattle.wire_port.specs.Wires.{WireView}
 use Rattle.wire_port.specs.declared.wire.Found.{Found}
 use Rattle.wire_port.specs.declared.wire.Found.TheVariants as found
@@ -85,20 +85,22 @@ pub record ConnsAreOpen (hub : HubView) (gone : List Bool) (left : List SessionE
   pub each : (grant : ℕ) → IsInUse hub left grant → ConnIsOpen wire (conn_at hub grant) (is_gone gone grant)
   pub once : (one other : ℕ) → IsInUse hub left one → IsInUse hub left other → conn_at hub one ≡ conn_at hub other → one ≡ other
 
--- the calls that were told touch this connection alone; where it had opened, that is told still
+-- the calls that were told touch this connection alone; where it had opened, that is told still, and so is what was taken
 pub record OnlyOf (conn : ℕ) (old new : WireView) : Type 0 where
   pub kept : list_any (opens conn) old.steps ≡ true → list_any (opens conn) new.steps ≡ true
   pub opened : (other : ℕ) → other ≢ conn → list_any (opens other) new.steps ≡ list_any (opens other) old.steps
   pub shut : (other : ℕ) → other ≢ conn → shuts other new.steps ≡ shuts other old.steps
   pub gone : (other : ℕ) → other ≢ conn → has_gone other new.steps ≡ has_gone other old.steps
   pub last : (other : ℕ) → other ≢ conn → new.last other ≡ old.last other
+  pub taken : (other : ℕ) → taken_from other old.steps ≤ taken_from other new.steps
 
--- the steps that were told are of connections that opened before; that these opened is told still
+-- the steps that were told are of connections that opened before; that these opened is told still, and so is what was taken
 pub record OnlyOpened (old new : WireView) : Type 0 where
   pub kept : (conn : ℕ) → list_any (opens conn) old.steps ≡ true → list_any (opens conn) new.steps ≡ true
   pub opened : (conn : ℕ) → list_any (opens conn) old.steps ≡ false → list_any (opens conn) new.steps ≡ false
   pub shut : (conn : ℕ) → list_any (opens conn) old.steps ≡ false → shuts conn new.steps ≡ shuts conn old.steps
   pub gone : (conn : ℕ) → list_any (opens conn) old.steps ≡ false → has_gone conn new.steps ≡ has_gone conn old.steps
+  pub taken : (conn : ℕ) → taken_from conn old.steps ≤ taken_from conn new.steps
 
 -- ---- what calls keep
 

@@ -15,6 +15,7 @@ ghost use Rattle.session_table.specs.Shown.{EachFew, FreshOn, session_end};
 ghost use Rattle.session_table.specs.Tables.{StandsOn, stand_at, reply_at, view_at};
 ghost use Rattle.wire_port.specs.Wires.{WireView};
 ghost use Rattle.hub.specs.Resting.{Rests, RestsBut, names};
+ghost use Rattle.hub.specs.Rounds.{ServesReady};
 ghost use Rattle.hub.specs.Standing.{EndsFollow, HubStands, FoundNow};
 ghost use Rattle.hub.specs.Served.{KeepsMade, OnlyOpened, OpensIn, ShutsAfter, ShutsFor};
 
@@ -129,7 +130,8 @@ impl<C: Cable> Hub<C> {
         self.sessions.turn(wire, found, &mut self.buffer)
     }
 
-    /// Serves each session once that is ready when its turn comes, in the order of grants. `ended` then has the sessions that ended in this call.
+    /// Serves each session once that is ready when its turn comes, in the order of grants: then bytes were taken from its connection, or it has
+    /// nothing more to do now. `ended` then has the sessions that ended in this call.
     ///
     /// The error comes only where the cable's count of faults rose in the call; the hub is broken then.
     pub fn rest<W: Wire>(&mut self, wire: &mut W) -> Result<(), HubFault>
@@ -142,6 +144,7 @@ impl<C: Cable> Hub<C> {
         ensures shuts { OnOk result (Both (W.told wire.old) (W.told wire.new) (ShutsFor [] self.new.hub.ended)) }
         ensures known { OnOk result (Both (W.told wire.old) (W.told wire.new) OnlyOpened) }
         ensures rests { OnOk result (Both (W.told wire.old) (W.told wire.new) (λ before now. Rests self.old.hub before → Rests self.new.hub now)) }
+        ensures serves { OnOk result (Both (W.told wire.old) (W.told wire.new) (ServesReady self.old.hub self.new.hub)) }
         ensures stands { OnOk result ((setting : Setting) → HubStands setting self.old.hub (C.chain self.old.cable) (W.told wire.old) → HubStands setting self.new.hub (C.chain self.new.cable) (W.told wire.new)) }
         ensures ends { OnOk result ((setting : Setting) → HubStands setting self.old.hub (C.chain self.old.cable) (W.told wire.old) → EndsFollow setting (W.told wire.old) (W.told wire.new) self.new.hub.ended) }
         ensures door { W.door wire.new ≡ W.door wire.old }

@@ -14,6 +14,7 @@ ghost use Rattle.wire_port.specs.Offers.{Answer};
 ghost use Rattle.wire_port.specs.Calls.{after_give};
 ghost use Rattle.hub.specs.Served.{ShutsFor, AreWhole, AreCalm, ConnsAreOpen, KeepsMade, OnlyOpened, SameSessions, conn_at, is_gone, next_of};
 ghost use Rattle.hub.specs.Resting.{ComesToRest, HasNoMore, OthersStay};
+ghost use Rattle.hub.specs.Rounds.{HasDone, ServesOne};
 
 use crate::HubFault;
 use crate::sessions::Sessions;
@@ -44,7 +45,7 @@ impl<C: Cable> Sessions<C> {
         ensures shuts { OnOk result (Both (W.told wire.old) (W.told wire.new) (ShutsFor self.old.table.hub.ended self.new.table.hub.ended)) }
         ensures known { OnOk result (Both (W.told wire.old) (W.told wire.new) OnlyOpened) }
         ensures others { OnOk result (Both (W.told wire.old) (W.told wire.new) (OthersStay grant self.old.table.hub self.new.table.hub)) }
-        ensures away { OnOk result (stand_at self.new.table.hub grant ≢ Going) }
+        ensures away { OnOk result (is_here (stand_at self.new.table.hub grant) ≡ false) }
         ensures stands { OnOk result (FollowsEvent (GoneNow (conn_at self.old.table.hub grant)) self.old.table.hub self.new.table.hub (C.chain self.old.table.cable) (C.chain self.new.table.cable) (W.told wire.old) (W.told wire.new)) }
         ensures ends { OnOk result ((before : Option WireView) → GoneNow (conn_at self.old.table.hub grant) before (W.told wire.old) → KeepsEnds self.old.table.hub self.new.table.hub (C.chain self.old.table.cable) before (W.told wire.new)) }
     {
@@ -109,7 +110,7 @@ impl<C: Cable> Sessions<C> {
         ensures shuts { OnOk result (Both (W.told wire.old) (W.told wire.new) (ShutsFor self.old.table.hub.ended self.new.table.hub.ended)) }
         ensures known { OnOk result (Both (W.told wire.old) (W.told wire.new) OnlyOpened) }
         ensures others { OnOk result (Both (W.told wire.old) (W.told wire.new) (OthersStay grant self.old.table.hub self.new.table.hub)) }
-        ensures away { OnOk result (stand_at self.new.table.hub grant ≢ Going) }
+        ensures away { OnOk result (is_here (stand_at self.new.table.hub grant) ≡ false) }
         ensures stands { OnOk result (FollowsEvent (GoneNow (conn_at self.old.table.hub grant)) self.old.table.hub self.new.table.hub (C.chain self.old.table.cable) (C.chain self.new.table.cable) (W.told wire.old) (W.told wire.new)) }
         ensures ends { OnOk result ((before : Option WireView) → GoneNow (conn_at self.old.table.hub grant) before (W.told wire.old) → KeepsEnds self.old.table.hub self.new.table.hub (C.chain self.old.table.cable) before (W.told wire.new)) }
     {
@@ -132,6 +133,7 @@ impl<C: Cable> Sessions<C> {
         ensures cable { self.new.table.cable ≡ self.old.table.cable }
         ensures ended { self.new.table.hub.ended ≡ self.old.table.hub.ended }
         ensures part { result ≡ false → count < length (reply_at self.old.table.hub grant) }
+        ensures unready { result ≡ false → slice_index_or self.new.table.hub.ready grant false ≡ false }
         ensures ready { (other : ℕ) → other ≢ grant → slice_index_or self.new.table.hub.ready other false ≡ slice_index_or self.old.table.hub.ready other false }
         ensures stands { (before now : WireView) → now ≡ after_give (conn_at self.old.table.hub grant) (length (reply_at self.old.table.hub grant)) (Answer.Bytes (take count (reply_at self.old.table.hub grant))) before → 0 < length (reply_at self.old.table.hub grant) → ConnsAreOpen self.old.table.hub self.old.gone.items [] before
             → KeepsPlay self.old.table.hub self.new.table.hub (C.chain self.old.table.cable) (C.chain self.new.table.cable) (Some before) (Some now) }
@@ -169,6 +171,7 @@ impl<C: Cable> Sessions<C> {
         ensures known { OnOk result (Both (W.told wire.old) (W.told wire.new) OnlyOpened) }
         ensures others { OnOk result (Both (W.told wire.old) (W.told wire.new) (OthersStay grant self.old.table.hub self.new.table.hub)) }
         ensures short { IfOk result (λ all. all ≡ false → Told (W.told wire.new) (HasNoMore self.new.table.hub grant)) }
+        ensures done { IfOk result (λ all. all ≡ false → stand_at self.old.table.hub grant ≡ Going → HasDone self.new.table.hub grant) }
         ensures stands { OnOk result (KeepsPlay self.old.table.hub self.new.table.hub (C.chain self.old.table.cable) (C.chain self.new.table.cable) (W.told wire.old) (W.told wire.new)) }
         ensures ends { OnOk result (KeepsEnds self.old.table.hub self.new.table.hub (C.chain self.old.table.cable) (W.told wire.old) (W.told wire.new)) }
     {
@@ -290,6 +293,7 @@ impl<C: Cable> Sessions<C> {
         ensures shuts { OnOk result (Both (W.told wire.old) (W.told wire.new) (ShutsFor self.old.table.hub.ended self.new.table.hub.ended)) }
         ensures known { OnOk result (Both (W.told wire.old) (W.told wire.new) OnlyOpened) }
         ensures at_rest { OnOk result (Both (W.told wire.old) (W.told wire.new) (ComesToRest grant self.old.table.hub self.new.table.hub)) }
+        ensures served { OnOk result (Both (W.told wire.old) (W.told wire.new) (ServesOne grant self.old.table.hub self.new.table.hub)) }
         ensures stands { OnOk result (KeepsPlay self.old.table.hub self.new.table.hub (C.chain self.old.table.cable) (C.chain self.new.table.cable) (W.told wire.old) (W.told wire.new)) }
         ensures ends { OnOk result (KeepsEnds self.old.table.hub self.new.table.hub (C.chain self.old.table.cable) (W.told wire.old) (W.told wire.new)) }
     {
@@ -333,6 +337,7 @@ impl<C: Cable> Sessions<C> {
         ensures shuts { OnOk result (Both (W.told wire.old) (W.told wire.new) (ShutsFor self.old.table.hub.ended self.new.table.hub.ended)) }
         ensures known { OnOk result (Both (W.told wire.old) (W.told wire.new) OnlyOpened) }
         ensures at_rest { OnOk result (Both (W.told wire.old) (W.told wire.new) (ComesToRest grant self.old.table.hub self.new.table.hub)) }
+        ensures served { OnOk result (Both (W.told wire.old) (W.told wire.new) (ServesOne grant self.old.table.hub self.new.table.hub)) }
         ensures stands { OnOk result (KeepsPlay self.old.table.hub self.new.table.hub (C.chain self.old.table.cable) (C.chain self.new.table.cable) (W.told wire.old) (W.told wire.new)) }
         ensures ends { OnOk result (KeepsEnds self.old.table.hub self.new.table.hub (C.chain self.old.table.cable) (W.told wire.old) (W.told wire.new)) }
     {
@@ -369,6 +374,7 @@ impl<C: Cable> Sessions<C> {
         ensures shuts { OnOk result (Both (W.told wire.old) (W.told wire.new) (ShutsFor self.old.table.hub.ended self.new.table.hub.ended)) }
         ensures known { OnOk result (Both (W.told wire.old) (W.told wire.new) OnlyOpened) }
         ensures at_rest { OnOk result (Both (W.told wire.old) (W.told wire.new) (ComesToRest grant self.old.table.hub self.new.table.hub)) }
+        ensures served { OnOk result (Both (W.told wire.old) (W.told wire.new) (ServesOne grant self.old.table.hub self.new.table.hub)) }
         ensures stands { OnOk result (KeepsPlay self.old.table.hub self.new.table.hub (C.chain self.old.table.cable) (C.chain self.new.table.cable) (W.told wire.old) (W.told wire.new)) }
         ensures ends { OnOk result (KeepsEnds self.old.table.hub self.new.table.hub (C.chain self.old.table.cable) (W.told wire.old) (W.told wire.new)) }
     {
@@ -405,6 +411,7 @@ impl<C: Cable> Sessions<C> {
         ensures shuts { OnOk result (Both (W.told wire.old) (W.told wire.new) (ShutsFor self.old.table.hub.ended self.new.table.hub.ended)) }
         ensures known { OnOk result (Both (W.told wire.old) (W.told wire.new) OnlyOpened) }
         ensures at_rest { OnOk result (Both (W.told wire.old) (W.told wire.new) (ComesToRest grant self.old.table.hub self.new.table.hub)) }
+        ensures served { OnOk result (Both (W.told wire.old) (W.told wire.new) (ServesOne grant self.old.table.hub self.new.table.hub)) }
         ensures stands { OnOk result (KeepsPlay self.old.table.hub self.new.table.hub (C.chain self.old.table.cable) (C.chain self.new.table.cable) (W.told wire.old) (W.told wire.new)) }
         ensures ends { OnOk result (KeepsEnds self.old.table.hub self.new.table.hub (C.chain self.old.table.cable) (W.told wire.old) (W.told wire.new)) }
     {

@@ -19,6 +19,7 @@ ghost use Rattle.plays.specs.Plays.{Setting};
 ghost use Rattle.grant_table.specs.Layouts.{grant_of};
 ghost use Rattle.hub.specs.Served.{HasBegun, OpensIn, OpensNow, ShutsAfter, ShutsFor, admitted_at, serves_conn, AreWhole, AreCalm, ConnsAreOpen, KeepsMade, OnlyOpened};
 ghost use Rattle.hub.specs.Resting.{Rests, RestsBut, names};
+ghost use Rattle.hub.specs.Rounds.{ServesNext, ServesReady};
 
 use crate::HubFault;
 use chain_model::Cable;
@@ -98,6 +99,7 @@ impl<C: Cable> Sessions<C> {
         ensures shuts { OnOk result (Both (W.told wire.old) (W.told wire.new) (ShutsFor self.old.table.hub.ended self.new.table.hub.ended)) }
         ensures known { OnOk result (Both (W.told wire.old) (W.told wire.new) OnlyOpened) }
         ensures rests { OnOk result (Both (W.told wire.old) (W.told wire.new) (λ before now. Rests self.old.table.hub before → Rests self.new.table.hub now)) }
+        ensures serves { OnOk result (Both (W.told wire.old) (W.told wire.new) (ServesNext grant self.old.table.hub self.new.table.hub)) }
         ensures stands { OnOk result (KeepsPlay self.old.table.hub self.new.table.hub (C.chain self.old.table.cable) (C.chain self.new.table.cable) (W.told wire.old) (W.told wire.new)) }
         ensures ends { OnOk result (KeepsEnds self.old.table.hub self.new.table.hub (C.chain self.old.table.cable) (W.told wire.old) (W.told wire.new)) }
     {
@@ -108,7 +110,7 @@ impl<C: Cable> Sessions<C> {
     }
 
     // Each session is served once that is ready when its turn comes, in the order of grants.
-    #[tactic(auto, using(crate::proofs::Shutting::shuts_none, crate::proofs::Shutting::shuts_then, crate::proofs::OnTheWire::known_same, crate::proofs::OnTheWire::known_then, crate::proofs::Resting::rests_none))]
+    #[tactic(auto, using(crate::proofs::Shutting::shuts_none, crate::proofs::Shutting::shuts_then, crate::proofs::OnTheWire::known_same, crate::proofs::OnTheWire::known_then, crate::proofs::Resting::rests_none, crate::proofs::Rounds::below_none))]
     fn rest<W: Wire>(&mut self, wire: &mut W, buffer: &mut [u8]) -> Result<(), HubFault>
         requires whole { AreWhole self.old.table.hub self.old.gone.items }
         requires calm { AreCalm self.old.table.hub self.old.gone.items }
@@ -127,6 +129,7 @@ impl<C: Cable> Sessions<C> {
         ensures shuts { OnOk result (Both (W.told wire.old) (W.told wire.new) (ShutsFor self.old.table.hub.ended self.new.table.hub.ended)) }
         ensures known { OnOk result (Both (W.told wire.old) (W.told wire.new) OnlyOpened) }
         ensures rests { OnOk result (Both (W.told wire.old) (W.told wire.new) (λ before now. Rests self.old.table.hub before → Rests self.new.table.hub now)) }
+        ensures serves { OnOk result (Both (W.told wire.old) (W.told wire.new) (ServesReady self.old.table.hub self.new.table.hub)) }
         ensures stands { OnOk result (KeepsPlay self.old.table.hub self.new.table.hub (C.chain self.old.table.cable) (C.chain self.new.table.cable) (W.told wire.old) (W.told wire.new)) }
         ensures ends { OnOk result (KeepsEnds self.old.table.hub self.new.table.hub (C.chain self.old.table.cable) (W.told wire.old) (W.told wire.new)) }
     {
@@ -351,6 +354,7 @@ impl<C: Cable> Sessions<C> {
         ensures shuts { OnOk result (Both (W.told wire.old) (W.told wire.new) (ShutsFor [] self.new.table.hub.ended)) }
         ensures known { OnOk result (Both (W.told wire.old) (W.told wire.new) OnlyOpened) }
         ensures rests { OnOk result (Both (W.told wire.old) (W.told wire.new) (λ before now. Rests self.old.table.hub before → Rests self.new.table.hub now)) }
+        ensures serves { OnOk result (Both (W.told wire.old) (W.told wire.new) (ServesReady self.old.table.hub self.new.table.hub)) }
         ensures stands { OnOk result (KeepsPlay self.old.table.hub self.new.table.hub (C.chain self.old.table.cable) (C.chain self.new.table.cable) (W.told wire.old) (W.told wire.new)) }
         ensures ends { OnOk result ((setting : Setting) → StandsOnBut setting [] self.old.table.hub (C.chain self.old.table.cable) (W.told wire.old) → EndsFollow setting (W.told wire.old) (W.told wire.new) self.new.table.hub.ended) }
     {

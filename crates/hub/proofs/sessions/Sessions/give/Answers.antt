@@ -8,6 +8,8 @@ use Rattle.hub.proofs.OnTheWire.{given_only, in_use_open, known_open, known_then
 use Rattle.hub.proofs.Giving.{bytes_keep, lost_keeps, none_keeps, some_bytes}
 use Rattle.hub.proofs.Ends.{given_ends, lost_ends}
 use Rattle.hub.proofs.Resting.{gave_not, gave_short, only_stay, same_none, set_same, set_stay, stay_then, told_no_more}
+use Rattle.hub.proofs.Rounds.{here_not_going}
+use Rattle.session_table.specs.Tables.{stand_at}
 use Rattle.hub.proofs.sessions.Sessions.give.Goals as goal
 
 pub lose-requires-clause-conns : goal.lose-requires-clause-conns
@@ -70,4 +72,4 @@ returns-in_ok-lose-in-Gone-clause-others g c = stay_then c.args.grant c.args.sel
     (given_only c.args.conn (length c.reply-piece.result.now) Answer.Gone _ _ c.in-Gone.ensures.told)) c.in_ok-lose-in-Gone.ensures.others
 
 pub returns-in_ok-lose-in-Gone-clause-short : goal.returns-in_ok-lose-in-Gone-clause-short
-returns-in_ok-lose-in-Gone-clause-short g c = λ some. told_no_more c.lose.new.self.table.hub c.args.grant (g.W.Wire.told c.lose.new.wire) c.in_ok-lose-in-Gone.ensures.away
+returns-in_ok-lose-in-Gone-clause-short g c = λ some. told_no_more c.lose.new.self.table.hub c.args.grant (g.W.Wire.told c.lose.new.wire) (here_not_going (stand_at c.lose.new.self.table.hub c.args.grant) c.in_ok-lose-in-Gone.ensures.away)

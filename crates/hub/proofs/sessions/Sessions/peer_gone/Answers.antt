@@ -1,5 +1,5 @@
-use Rattle.std.proofs.Common.{◌≢◌, ap, sym, subst, [], ◌∙◌}
-use Rattle.client_session.specs.declared.Stand.TheVariants.{Going}
+use Rattle.std.proofs.Common.{◌≡◌, ap, false, sym, subst, [], ◌∙◌}
+use Rattle.client_session.specs.Sessions.{is_here}
 use Rattle.session_table.specs.Tables.{stand_at}
 use Rattle.base_types.specs.Tellings.{Told}
 use Rattle.hub.specs.Served.{AreWhole, AreCalm, ConnsAreOpen}
@@ -53,4 +53,4 @@ returns-clause-others g c = set_stay c.args.self.now.table.hub c.settle.new.self
     (went_stay c.args.grant _ c.args.self.now.table.hub c.peer_gone.new.self.hub c.settle.new.self.table.hub (g.W.Wire.told c.args.wire.now) (g.W.Wire.told c.settle.new.wire) c.in_ok-peer_gone.ensures.kept (c.in_ok-peer_gone.ensures.went c.requires.rests) c.settle.ensures.rests)
 
 pub returns-clause-away : goal.returns-clause-away
-returns-clause-away g c = subst (λ table. stand_at table.hub c.args.grant ≢ Going) (sym c.set_ready.ensures) (gone_away c.args.grant _ c.args.self.now.table.hub c.peer_gone.new.self c.settle.new.self.table (c.in_ok-peer_gone.ensures.went c.requires.rests) c.settle.ensures.table)
+returns-clause-away g c = subst (λ table. is_here (stand_at table.hub c.args.grant) ≡ false) (sym c.set_ready.ensures) (gone_away c.args.grant _ c.args.self.now.table.hub c.peer_gone.new.self c.settle.new.self.table (c.in_ok-peer_gone.ensures.went c.requires.rests) c.settle.ensures.table)

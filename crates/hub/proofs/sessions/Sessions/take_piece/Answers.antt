@@ -9,6 +9,7 @@ use Rattle.hub.proofs.OnTheWire.{in_use_open, known_open, known_then_ok, taken_o
 use Rattle.hub.proofs.Events.{lost_keeps, none_keeps, took_keeps}
 use Rattle.hub.proofs.Ends.{came_ends, left_ends, untaken_ends}
 use Rattle.hub.proofs.Resting.{comes_then_ok, lost_comes_ok, only_stay, same_none, set_comes, took_not}
+use Rattle.hub.proofs.Rounds.{came_served_ok}
 use Rattle.hub.proofs.sessions.Sessions.take_piece.Goals as goal
 
 pub take-requires-clause-open : goal.take-requires-clause-open
@@ -72,3 +73,7 @@ pub returns-in-Gone-clause-at_rest : goal.returns-in-Gone-clause-at_rest
 returns-in-Gone-clause-at_rest g c = lost_comes_ok c.args.grant c.args.self.now.table.hub c.args.self.now.table.hub c.lose.new.self.table.hub (g.W.Wire.told c.args.wire.now) (g.W.Wire.told c.take.new.self) (g.W.Wire.told c.lose.new.wire) c.lose.result
     (only_stay c.args.grant c.args.conn c.args.self.now.table.hub c.args.self.now.table.hub c.args.self.now.gone.items (g.W.Wire.told c.args.wire.now) (g.W.Wire.told c.take.new.self) (ap is_taken c.requires.going) c.requires.conn (same_none c.args.self.now.table.hub) (λ other ne. refl) c.requires.conns
     (taken_only c.args.conn Answer.Gone _ _ c.in-Gone.ensures.told)) c.lose.ensures.others c.lose.ensures.away
+
+pub returns-in-Bytes-clause-served : goal.returns-in-Bytes-clause-served
+returns-in-Bytes-clause-served g c = came_served_ok c.args.grant c.args.conn c.in-Bytes.count c.take.new.buf c.args.self.now.table.hub c.use_bytes.new.self.table.hub (g.W.Wire.told c.args.wire.now) (g.W.Wire.told c.take.new.self) (g.W.Wire.told c.use_bytes.new.wire) c.use_bytes.result
+    c.requires.conn c.in-Bytes.ensures.bound.0 c.in-Bytes.ensures.bound.1 c.in-Bytes.ensures.told c.use_bytes.ensures.known
