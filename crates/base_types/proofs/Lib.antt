@@ -1,3 +1,4 @@
+pub mod CapitalLanes
 pub mod CountLaws
 pub mod TellingLaws
 pub mod TextLaws

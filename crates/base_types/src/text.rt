@@ -7,6 +7,7 @@ ghost use Rattle.base_types.specs.Texts.{bytes_of, HasPlace};
 use arrayvec::ArrayString;
 use std::alloc::{AllocError, Global};
 use std::marker::Model;
+use std::simd::prelude::*;
 use std::str;
 
 // At most so many bytes take no memory.
@@ -150,23 +151,30 @@ fn with_letter(alloc: Global, front: &str, letter: char) -> Result<String, Alloc
     Ok(string)
 }
 
+// Sixteen bytes, their letters in capitals.
+#[inline(always)]
+fn in_capitals(bytes: u8x16) -> u8x16
+    ensures { result ≡ map to_ascii_uppercase bytes }
+{
+    let from_letter = bytes - u8x16::splat(b'a');
+    from_letter
+        .simd_lt(u8x16::splat(26))
+        .select(bytes - u8x16::splat(b'a' - b'A'), bytes)
+}
+
 fn short_capitals(letters: &[u8]) -> ArrayString<16>
     requires ascii { IsAscii letters.now }
     requires short { length letters.now ≤ 16 }
     ensures { result.bytes ≡ map to_ascii_uppercase letters.now }
 {
     let mut bytes = [0; INLINE];
-    for at in 0..letters.len() {
-        bytes[at] = letters[at].to_ascii_uppercase();
-    }
-    match str::from_utf8(&bytes[..letters.len()]) {
-        Ok(text) => {
-            let mut short = ArrayString::new();
-            short.push_str(text);
-            short
-        }
-        Err(_) => unreachable!(),
-    }
+    bytes[..letters.len()].copy_from_slice(letters);
+    let capitals = in_capitals(u8x16::from_array(bytes)).to_array();
+    // SAFETY: capitals of ASCII bytes are ASCII, and so UTF-8.
+    let text = unsafe { str::from_utf8_unchecked(&capitals[..letters.len()]) };
+    let mut short = ArrayString::new();
+    short.push_str(text);
+    short
 }
 
 fn long_capitals(alloc: Global, letters: &[u8]) -> Result<String, AllocError>
@@ -177,10 +185,8 @@ fn long_capitals(alloc: Global, letters: &[u8]) -> Result<String, AllocError>
     for letter in letters {
         bytes.push_reserved(letter.to_ascii_uppercase());
     }
-    match String::from_utf8(bytes) {
-        Ok(string) => Ok(string),
-        Err(_) => unreachable!(),
-    }
+    // SAFETY: capitals of ASCII bytes are ASCII, and so UTF-8.
+    Ok(unsafe { String::from_utf8_unchecked(bytes) })
 }
 
 #[cfg(test)]
