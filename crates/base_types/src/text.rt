@@ -75,6 +75,18 @@ impl Text {
         Ok(Text { letters })
     }
 
+    /// An equal text. Takes no memory for at most 16 bytes.
+    pub fn copy(&self, alloc: Global) -> Result<Text, AllocError>
+        ensures ok { IfOk result (λ copy. copy ≡ self.now) }
+        ensures short { length self.now ≤ 16 → IsOk result }
+    {
+        let letters = match &self.letters {
+            Letters::Short(short) => Letters::Short(*short),
+            Letters::Long(long) => Letters::Long(String::from_str(alloc, long.as_str())?),
+        };
+        Ok(Text { letters })
+    }
+
     /// The text, to be read.
     pub fn as_str(&self) -> &str
         ensures { result.now ≡ self.now }

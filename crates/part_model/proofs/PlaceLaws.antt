@@ -3,7 +3,7 @@ use Rattle.std.proofs.Common.{◌≡◌, ◌==◌, nat_eq, ℕ, suc, ◌<◌, �
 use Rattle.std.specs.Cmp.Lexicographic.{pointwise}
 use Rattle.std.specs.declared.option.Option.{Option}
 use Rattle.std.specs.declared.option.Option.TheVariants.{Some}
-use Rattle.std.proofs.lemmas.Bool.{and_parts, and_from, or_cases, or_left, or_right, eqb-true, eq-eqb, cases_Bool}
+use Rattle.std.proofs.lemmas.Bool.{and_parts, and_from, or_cases, or_left, or_right, eqb-true, eq-eqb, ne_eqb, cases_Bool}
 use Rattle.part_model.specs.declared.registers.DataRegister.{DataRegister}
 use Rattle.part_model.specs.Parts.{NamedRegister, named_of, same_name}
 use Rattle.part_model.specs.Plans.{AccessEntry, is_listed, standard_names, names_known, named_after, length_or, place_of_name, mentioned}
@@ -31,6 +31,13 @@ equal_bytes [] [] = refl
 equal_bytes [] (y ∷ ys) = refl
 equal_bytes (x ∷ xs) [] = refl
 equal_bytes (x ∷ xs) (y ∷ ys) = ap (λ rest. (x == y) && rest) (equal_bytes xs ys)
+
+-- names of other lengths are not equal
+pub other_lengths : (xs ys : List ℕ) → (length xs ≡ length ys → ⊥) → nat_eq (length xs) (length ys) ≡ same_name xs ys
+other_lengths xs ys apart = elim (cases_Bool (same_name xs ys)) [
+  | inl same ↦ absurd (apart (ap length (same_is xs ys same)))
+  | inr differs ↦ ne_eqb (length xs) (length ys) apart ∙ sym differs
+]
 
 -- ---- the place of a name
 

@@ -1,16 +1,51 @@
 // Names that are compared and looked for.
-ghost use Rattle.std.specs.Prelude.{◌≡◌, IfOk};
+ghost use Rattle.std.specs.Prelude.{◌≡◌, length};
 ghost use Rattle.part_model.specs.Parts as parts;
 ghost use Rattle.part_model.specs.Plans as plans;
 
 use base_types::Text;
-use std::alloc::{AllocError, Global};
 
 // Equal bytes.
 pub fn same_name(left: &[u8], right: &[u8]) -> bool
     ensures { result ≡ parts.same_name left.now right.now }
 {
-    left == right
+    left.len() == right.len() && same_bytes(left, right)
+}
+
+// Equal bytes of as many on both sides, eight of them in a step.
+fn same_bytes(left: &[u8], right: &[u8]) -> bool
+    requires { length left.now ≡ length right.now }
+    ensures { result ≡ parts.same_name left.now right.now }
+{
+    let mut rest = left;
+    let mut other = right;
+    while let Some((bytes, behind)) = rest.split_first_chunk::<8>() {
+        let Some((others, more)) = other.split_first_chunk::<8>() else {
+            unreachable!()
+        };
+        if bytes != others {
+            return false;
+        }
+        rest = behind;
+        other = more;
+    }
+    same_rest(rest, other)
+}
+
+// Equal bytes, one of them in a step.
+fn same_rest(left: &[u8], right: &[u8]) -> bool
+    ensures { result ≡ parts.same_name left.now right.now }
+{
+    let mut rest = left;
+    let mut other = right;
+    while let Some((byte, behind)) = rest.split_first() {
+        match other.split_first() {
+            Some((twin, more)) if byte == twin => other = more,
+            _ => return false,
+        }
+        rest = behind;
+    }
+    other.is_empty()
 }
 
 // The bytes of a name.
@@ -18,13 +53,6 @@ pub fn spelled(name: &Text) -> &[u8]
     ensures { result.now ≡ name.now }
 {
     name.as_str().as_bytes()
-}
-
-// An equal text.
-pub fn copy_name(alloc: Global, name: &Text) -> Result<Text, AllocError>
-    ensures { IfOk result (λ copy. copy ≡ name.now) }
-{
-    Text::from_str(alloc, name.as_str())
 }
 
 // Whether the standard names a register so.

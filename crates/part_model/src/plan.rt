@@ -65,6 +65,15 @@ impl Names {
         }
     }
 
+    /// One name alone. Takes no memory.
+    pub fn one(alloc: Global, name: Text) -> Self
+        ensures { result ≡ name ∷ [] }
+    {
+        Names {
+            list: SmallVec::from_buf(alloc, [name]),
+        }
+    }
+
     /// Puts a name behind the others. Where there is no memory the names stay as they were, and the new one is dropped.
     pub fn push(&mut self, name: Text) -> Result<(), AllocError>
         ensures added { OnOk result (self.new ≡ self.old ++ name ∷ []) }

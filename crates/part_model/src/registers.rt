@@ -7,7 +7,7 @@ ghost use Rattle.part_model.specs.Parts as parts;
 ghost use Rattle.part_model.specs.Plans as plans;
 
 use crate::name_index::NameIndex;
-use crate::names::{copy_name, is_standard};
+use crate::names::is_standard;
 use crate::plan::Access;
 use base_types::Text;
 use std::alloc::{AllocError, Global};
@@ -85,7 +85,7 @@ pub fn mention<'a>(
         return Err(AllocError);
     }
     let register = DataRegister {
-        name: copy_name(alloc, &access.register)?,
+        name: access.register.copy(alloc)?,
         length,
     };
     known.registers.push(register)?;

@@ -8,7 +8,6 @@ ghost use Rattle.part_model.specs.Parts as parts;
 ghost use Rattle.part_model.specs.Plans as plans;
 
 use crate::codes::all_ones;
-use crate::names::copy_name;
 use crate::patterns::CodePatterns;
 use crate::plan::{Opcode, PartPlan, PartRefusal};
 use crate::refusals::register_index_of;
@@ -165,7 +164,7 @@ fn copy_selection(alloc: Global, selection: &Selection) -> Result<Selection, All
     ensures { IfOk result (λ copy. copy ≡ selection.now) }
 {
     Ok(Selection {
-        name: copy_name(alloc, &selection.name)?,
+        name: selection.name.copy(alloc)?,
         patterns: selection.patterns.copy(alloc)?,
         register: selection.register,
     })
@@ -195,7 +194,7 @@ pub fn copy_registers(
     let mut copied = Vec::new(alloc);
     for register in registers {
         let copy = DataRegister {
-            name: copy_name(alloc, &register.name)?,
+            name: register.name.copy(alloc)?,
             length: register.length,
         };
         copied.push(copy)?;

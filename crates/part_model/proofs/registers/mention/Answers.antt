@@ -12,7 +12,7 @@ returns-clause-places c =
     let register : DataRegister = record { name = c.args.access.now.register; length = c.unwrap_or-length.result } in
     let place : c.len-place.result ≡ length c.args.known.now.registers.items = omega arith in
     let after = knows_after c.args.known.now.registers.items register _ c.args.known.now.places c.add.new.self c.requires.places place (λ name. rw (← c.as_str-name.ensures) (c.in_ok-add.ensures.added name)) in
-    let pushed = c.in_ok-push.ensures.items ∙ ap (λ name. c.args.known.now.registers.items ++ record { name = name; length = c.unwrap_or-length.result } ∷ []) c.in_ok-copy_name.ensures in
+    let pushed = c.in_ok-push.ensures.items ∙ ap (λ name. c.args.known.now.registers.items ++ record { name = name; length = c.unwrap_or-length.result } ∷ []) c.in_ok-copy.ensures.ok in
     subst (λ (registers : List DataRegister). Knows (named_of registers) c.add.new.self) (sym pushed) after
 
 pub returns-then-is_known-clause-places : goal.returns-then-is_known-clause-places
@@ -32,6 +32,6 @@ returns-clause-is c =
     let stated : c.unwrap_or-length.result ≡ length_or c.args.access.now.length 0 = search rules in
     let register : DataRegister = record { name = name; length = length_or c.args.access.now.length 0 } in
     let pushed = c.in_ok-push.ensures.items
-    ∙ ap (λ spelled. items ++ record { name = spelled; length = c.unwrap_or-length.result } ∷ []) c.in_ok-copy_name.ensures
+    ∙ ap (λ spelled. items ++ record { name = spelled; length = c.unwrap_or-length.result } ∷ []) c.in_ok-copy.ensures.ok
     ∙ ap (λ length. items ++ record { name = name; length = length } ∷ []) stated in
     ap named_of pushed ∙ named_joined items register _ _ apart unknown
