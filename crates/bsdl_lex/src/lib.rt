@@ -145,6 +145,14 @@ fn short_run(class: Class, text: &[u8]) -> usize
     count
 }
 
+/// How many bytes that may stand in a word stand at the front.
+pub fn word_length(text: &[u8]) -> usize
+    ensures is { result ≡ prefix_len t.in_word text.now }
+    ensures bound { result ≤ length text.now }
+{
+    run(Class::Word, text)
+}
+
 fn starts_digit(text: &[u8]) -> bool
     ensures { result ≡ t.starts t.is_digit text.now }
 {

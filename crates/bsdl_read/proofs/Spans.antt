@@ -1,7 +1,7 @@
 -- What contents of every form share: blanks, lists that grow at their end, and the run over their bytes.
-use Rattle.std.proofs.Common.{◌≡◌, ℕ, ◌==◌, Bool, true, false, ◌⊎◌, inl, inr, List, [], ◌∷◌, ◌++◌, map, Result, Ok, Err, refl, sym, ap, ◌∙◌, append_assoc}
-use Rattle.std.specs.List.{list_all}
-use Rattle.std.proofs.lemmas.Bool.{and_parts, and_from, or_cases, eqb-true}
+use Rattle.std.proofs.Common.{◌≡◌, ℕ, suc, ◌+◌, ◌==◌, Bool, true, false, ◌⊎◌, inl, inr, List, [], ◌∷◌, ◌++◌, map, take, Result, Ok, Err, refl, sym, ap, ◌∙◌, append_assoc, arith}
+use Rattle.std.specs.List.{list_all, prefix_len}
+use Rattle.std.proofs.lemmas.Bool.{and_parts, and_from, or_cases, eqb-true, cases_Bool}
 use Rattle.bsdl_lex.specs.declared.Token.{Token}
 use Rattle.bsdl_lex.specs.Tokens.{is_letter, is_digit, in_word}
 use Rattle.bsdl_read.specs.Contents.{and_then, is_space, is_pattern_digit, inside, through, through_all}
@@ -40,6 +40,14 @@ through-content step text s (token ∷ tokens) =
 pub every-snoc : {T : Type 0} (is : T → Type 0) (xs : List T) (x : T) → Every is xs → is x → Every is (xs ++ x ∷ [])
 every-snoc is [] x all one = (one, tt)
 every-snoc is (y ∷ xs) x all one = (all.0, every-snoc is xs x all.1 one)
+
+-- the bytes at the front that pass a test all pass it
+pub passes-front : (p : ℕ → Bool) (xs : List ℕ) → list_all p (take (prefix_len p xs) xs) ≡ true
+passes-front p [] = refl
+passes-front p (x ∷ xs) = elim (cases_Bool (p x)) [
+  | inl first ↦ let more : 1 + prefix_len p xs ≡ suc (prefix_len p xs) = omega arith in rw (first, more) (and_from (p x) (list_all p (take (prefix_len p xs) xs)) first (passes-front p xs))
+  | inr first ↦ rw first refl
+]
 
 pub passes-snoc : (p : ℕ → Bool) (xs : List ℕ) (x : ℕ) → list_all p xs ≡ true → p x ≡ true → list_all p (xs ++ x ∷ []) ≡ true
 passes-snoc p [] x all one = and_from (p x) true one refl

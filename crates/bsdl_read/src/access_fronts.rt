@@ -9,9 +9,11 @@ ghost use Rattle.bsdl_read.specs.ContentGrammar.{is_name};
 ghost use Rattle.bsdl_read.specs.declared.accesses.AccessStage.TheVariants.{Closed, Entry};
 
 use crate::accesses::{AccessReading, AccessStage};
-use crate::contents::{ContentFault, behind_sign, inside, is_space, name_of, number_of, split_run};
+use crate::contents::{
+    ContentFault, behind_sign, inside, is_space, name_of, number_of, split_run, split_word,
+};
 use crate::words::same_word;
-use bsdl_lex::{Token, in_word, is_digit, is_letter};
+use bsdl_lex::{Token, is_digit, is_letter};
 use part_model::{Access, Names};
 use std::alloc::Global;
 
@@ -52,7 +54,7 @@ fn front_word(bytes: &[u8]) -> Option<FrontWord<'_>>
     ensures letters { IfSome result (λ front. list_all t.in_word front.word.now ≡ true) }
     ensures less { IfSome result (λ front. length front.behind.now < length bytes.now) }
 {
-    let (word, behind) = split_run(bytes, in_word);
+    let (word, behind) = split_word(bytes);
     let (first, _) = word.split_first()?;
     if is_letter(*first) {
         Some(FrontWord { word, behind })
@@ -196,8 +198,7 @@ impl AccessReading {
         ensures stage { OnOk result (self.new.stage ≡ Closed) }
     {
         let register = name_of(alloc, word)?;
-        let mut instructions = Names::new(alloc);
-        instructions.push(name_of(alloc, name)?)?;
+        let instructions = Names::one(alloc, name_of(alloc, name)?);
         self.stage = AccessStage::Closed;
         self.done.push(Access {
             register,

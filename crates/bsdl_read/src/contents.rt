@@ -9,7 +9,7 @@ ghost use Rattle.bsdl_read.specs.declared.contents.ContentFault.TheVariants.{Mem
 
 use crate::words::{capital, spelled};
 use base_types::Text;
-use bsdl_lex::{Token, TokenKind, is_digit};
+use bsdl_lex::{Token, TokenKind, is_digit, word_length};
 use part_model::{CodePattern, Digit};
 use std::alloc::{AllocError, AllocFailed, Global};
 
@@ -89,6 +89,14 @@ pub fn split_run<F: Fn(u8) -> bool>(bytes: &[u8], passes: F) -> (&[u8], &[u8])
         count += 1;
     }
     bytes.split_at(count)
+}
+
+// The bytes at the front that may stand in a word, and those behind them.
+pub fn split_word(bytes: &[u8]) -> (&[u8], &[u8])
+    ensures whole { bytes.now ≡ result.0.now ++ result.1.now }
+    ensures letters { list_all t.in_word result.0.now ≡ true }
+{
+    bytes.split_at(word_length(bytes))
 }
 
 // The bytes behind a sign, where it stands at the front.

@@ -9,7 +9,7 @@ ghost use Rattle.bsdl_read.specs.Opcodes as o;
 
 use crate::contents::{
     ContentFault, add_letter, behind_sign, departs_unless, digit_of, inside, is_pattern_digit,
-    is_space, name_of, pattern_of, split_run,
+    is_space, name_of, pattern_of, split_run, split_word,
 };
 use base_types::{Items, Text};
 use bsdl_lex::{Token, in_word, is_letter};
@@ -55,7 +55,7 @@ fn whole_entry(bytes: &[u8]) -> Option<WholeEntry<'_>>
     ensures is { IfSome result (λ entry. o.BeginsWith bytes.now entry.name.now entry.digits.now entry.behind.now) }
     ensures few { IfSome result (λ entry. length entry.digits.now ≤ 64) }
 {
-    let (name, behind_name) = split_run(bytes, in_word);
+    let (name, behind_name) = split_word(bytes);
     let (first, _) = name.split_first()?;
     let (_, list) = split_run(behind_name, is_space);
     let (digits, end) = split_run(behind_sign(list, b'(')?, is_pattern_digit);
