@@ -110,6 +110,7 @@ impl<C: Cable> SessionTable<C> {
     }
 
     /// Who goes on next: the first that waits for a chain that nobody holds. Over a cable that tells its chain, nobody does between two calls.
+    /// Unless the cable failed, the session of that grant waits, be its peer there or gone.
     pub fn next(&self) -> Option<usize>
         ensures is { result ≡ next_in_line self.now.hub.holder self.now.hub.waiting }
         ensures line { self.now.hub.broken ≡ false → (grant : ℕ) → result ≡ Some grant → is_in_line (stand_at self.now.hub grant) ≡ true }
