@@ -9,8 +9,6 @@ mod opcodes;
 mod patterns;
 mod read;
 mod structure;
-#[cfg(test)]
-mod tests;
 mod words;
 
 pub use laws::{contents_have_parts, entity_or_refusal, files_have_parts, structure_is_refused};

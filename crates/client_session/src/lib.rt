@@ -112,6 +112,3 @@ pub fn replies_are_short()
     ensures messages { MessagesReplyShort }
     ensures letters { LettersReplyShort }
 {}
-
-#[cfg(test)]
-mod tests;

@@ -237,6 +237,3 @@ pub fn serve<C: Cable, I: Source, O: Sink>(
         }
     }
 }
-
-#[cfg(test)]
-mod tests;

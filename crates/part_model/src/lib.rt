@@ -20,8 +20,6 @@ mod register_index;
 mod registers;
 mod reset;
 mod selections;
-#[cfg(test)]
-mod tests;
 
 pub use part::{Part, RegNo};
 pub use patterns::{CodePattern, Patterns};

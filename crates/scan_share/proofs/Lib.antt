@@ -36,4 +36,3 @@ pub mod OwnWidths
 pub mod Answered
 pub mod OwnLongest
 pub mod CodeTests
-pub mod DeviceTypes

@@ -85,8 +85,3 @@ pub fn reloads_cost_cycles()
     ensures again { user_cycles 0 two_loaded ≡ 13 }
     ensures other { user_cycles 1 two_loaded ≡ 26 }
 {}
-
-#[cfg(test)]
-mod random_groups;
-#[cfg(test)]
-mod tests;

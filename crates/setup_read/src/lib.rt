@@ -5,8 +5,6 @@ mod boards;
 mod cells;
 mod read;
 mod setup;
-#[cfg(test)]
-mod tests;
 
 pub use read::read_setup;
 pub use setup::{Setup, SetupRefusal};

@@ -34,6 +34,3 @@ pub fn scans_have_their_states()
     ensures closed { (state : Tap) (is_open : Bool) → ends_scan state is_open ≡ true → false ≡ may_scan false state }
     ensures low { (state : Tap) (is_open : Bool) → is_open ≡ may_scan false state → ends_scan state is_open ≡ false }
 {}
-
-#[cfg(test)]
-mod tests;

@@ -1,5 +1,0 @@
-use Rattle.std.proofs.Common.{length}
-use Rattle.scan_share.proofs.random_groups.bank.+cells_at.Given as goal
-
-abbrev pub decreases-cells_at : goal.decreases-cells_at
-decreases-cells_at l = length l.boards.now

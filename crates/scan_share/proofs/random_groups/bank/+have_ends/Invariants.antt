@@ -1,5 +1,0 @@
-use Rattle.std.proofs.Common.{length}
-use Rattle.scan_share.proofs.random_groups.bank.+have_ends.Given as goal
-
-abbrev pub decreases-have_ends : goal.decreases-have_ends
-decreases-have_ends l = length l.nets.now

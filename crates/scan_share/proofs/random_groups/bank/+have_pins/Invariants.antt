@@ -1,5 +1,0 @@
-use Rattle.std.proofs.Common.{length}
-use Rattle.scan_share.proofs.random_groups.bank.+have_pins.Given as goal
-
-abbrev pub decreases-have_pins : goal.decreases-have_pins
-decreases-have_pins l = length l.boards.now
