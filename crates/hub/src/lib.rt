@@ -22,6 +22,3 @@ impl From<session_table::CableFailed> for HubFault {
         HubFault::Cable
     }
 }
-
-#[cfg(test)]
-mod tests;

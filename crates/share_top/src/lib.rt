@@ -19,12 +19,3 @@ mod words;
 pub use command::{RanLocal, local_command};
 pub use running::run;
 pub use serving::{Ran, serve_command};
-
-#[cfg(test)]
-mod check_tests;
-#[cfg(test)]
-mod pipe_tests;
-#[cfg(test)]
-mod serve_tests;
-#[cfg(test)]
-mod test_files;

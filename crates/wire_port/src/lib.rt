@@ -7,15 +7,11 @@ mod lines;
 mod link;
 mod log;
 mod play;
-#[cfg(test)]
-mod played_tests;
 mod read;
 mod ready;
 mod script;
 mod script_wire;
 mod slots;
-#[cfg(test)]
-mod tests;
 mod wire;
 mod words;
 

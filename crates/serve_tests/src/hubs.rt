@@ -8,10 +8,10 @@ ghost use Rattle.wire_port.specs.Played.{wire_of};
 ghost use Rattle.plays.specs.Outcomes.{SeatsOpen};
 ghost use Rattle.hub.specs.Served.{OnlyTellsOpened, OpensIn};
 
-use crate::Hub;
 use base_types::Items;
 use chain_model::{Bench, Board, Cable, CableFault, Chain, demo_board};
 use grant_table::{Grant, Layout, Protocol, layout_fault};
+use hub::Hub;
 use scan_share::Parked;
 use std::alloc::{AllocError, Global};
 use std::marker::Model;
@@ -180,7 +180,7 @@ fn is_end(found: Found) -> bool
 }
 
 // What the next `poll` finds.
-#[tactic(auto, using(crate::proofs::Polling::polled_seats, crate::proofs::Polling::polled_tells, crate::proofs::Polling::polled_in))]
+#[tactic(auto, using(hub::proofs::Polling::polled_seats, hub::proofs::Polling::polled_tells, hub::proofs::Polling::polled_in))]
 fn polled<C: Cable, W: Poller>(hub: &Hub<C>, wire: &mut W) -> Result<Found, Fail>
     requires up { (W.door wire.old).up ≡ true }
     requires not_over { (W.door wire.old).over ≡ false }
@@ -199,7 +199,7 @@ fn polled<C: Cable, W: Poller>(hub: &Hub<C>, wire: &mut W) -> Result<Found, Fail
 }
 
 // Serves what was found.
-#[tactic(auto, using(crate::proofs::Polling::served_tells))]
+#[tactic(auto, using(hub::proofs::Polling::served_tells))]
 fn turn<C: Cable, W: Wire>(hub: &mut Hub<C>, wire: &mut W, found: Found) -> Result<(), Fail>
     requires fit { hub.old.hub.broken ≡ false }
     requires found { is_end (Ok found) ≡ false }
@@ -218,7 +218,7 @@ fn turn<C: Cable, W: Wire>(hub: &mut Hub<C>, wire: &mut W, found: Found) -> Resu
 }
 
 // Serves the sessions that are ready.
-#[tactic(auto, using(crate::proofs::Polling::served_tells))]
+#[tactic(auto, using(hub::proofs::Polling::served_tells))]
 fn rest<C: Cable, W: Wire>(hub: &mut Hub<C>, wire: &mut W) -> Result<(), Fail>
     requires fit { hub.old.hub.broken ≡ false }
     requires open { Told (W.told wire.old) (SeatsOpen hub.old.hub) }

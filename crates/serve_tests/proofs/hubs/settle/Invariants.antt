@@ -2,7 +2,7 @@ use Rattle.std.proofs.Common.{◌≡◌, false}
 use Rattle.base_types.specs.Tellings.{Told}
 use Rattle.plays.specs.Outcomes.{SeatsOpen}
 use Rattle.hub.specs.Served.{OnlyTellsOpened}
-use Rattle.hub.proofs.tests.settle.Given as goal
+use Rattle.serve_tests.proofs.hubs.settle.Given as goal
 
 abbrev pub invariant-loop : goal.invariant-loop
 invariant-loop g l = record {

@@ -2,7 +2,7 @@ use Rattle.std.proofs.Common.{◌≡◌, false, true}
 use Rattle.base_types.specs.Tellings.{Told}
 use Rattle.plays.specs.Outcomes.{SeatsOpen}
 use Rattle.hub.specs.Served.{OnlyTellsOpened}
-use Rattle.hub.proofs.tests.serve.Given as goal
+use Rattle.serve_tests.proofs.hubs.serve.Given as goal
 
 abbrev pub invariant-loop : goal.invariant-loop
 invariant-loop g l = record {

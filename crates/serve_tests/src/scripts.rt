@@ -1,9 +1,9 @@
 // Scripts that are refused, each for its cause, and scripts that are played.
 ghost use Rattle.std.specs.Prelude.{◌≡◌, ◌<◌, length};
 
-use super::*;
 use std::alloc::{AllocError, Global};
 use std::test::Fail;
+use wire_port::{ScriptRefusal, read_script};
 
 fn refusal(alloc: Global, text: &str) -> Option<ScriptRefusal> {
     read_script(alloc, text.as_bytes()).err()

@@ -1,8 +1,25 @@
 // What `check` tells of setups over a shelf with the demo part: the text of those that are right, and what is wrong with the others.
-use crate::check::check;
-use crate::test_files::{BOTH, DEMO, DEMOS, ONE, TWO, demo, shelf};
-use ports::{MemShelf, MemSink};
+use crate::setup_files::{BOTH, DEMO, DEMOS, ONE, TWO, demo, shelf};
+use chain_model::Chain;
+use ports::{MemShelf, MemSink, MemSource};
+use share_top::{RanLocal, local_command};
+use std::alloc::{AllocError, Global};
 use std::test::Fail;
+
+// The status and the output of `check`.
+fn check(alloc: Global, name: &str, files: &mut MemShelf) -> Result<(u8, MemSink), AllocError> {
+    let mut words = Vec::new(alloc);
+    words.push(String::from_str(alloc, "check")?)?;
+    words.push(String::from_str(alloc, name)?)?;
+    let mut input = MemSource::new(Vec::new(alloc), Vec::new(alloc), Vec::new(alloc));
+    let sink = MemSink::new(alloc, 500, 3, Vec::new(alloc))?;
+    let RanLocal {
+        status,
+        bench: _,
+        out,
+    } = local_command(alloc, &words, Chain::empty(), files, &mut input, sink);
+    Ok((status, out))
+}
 
 #[test]
 fn a_setup_is_told(rt: HostRuntime) -> Result<(), Fail> {
@@ -26,8 +43,8 @@ ok\n",
         ),
     ] {
         let mut files = shelf(rt.alloc(), head, tail, &[])?;
-        let mut out = MemSink::new(rt.alloc(), 500, 3, Vec::new(rt.alloc()))?;
-        assert_eq!(rt; check(rt.alloc(), "a.toml", &mut files, &mut out), 0);
+        let (status, out) = check(rt.alloc(), "a.toml", &mut files)?;
+        assert_eq!(rt; status, 0);
         assert_eq!(rt; out.written(), text);
     }
     Ok(())
@@ -82,12 +99,8 @@ fn a_refusal_is_told(rt: HostRuntime) -> Result<(), Fail> {
         (ONE, "[[device]]\nbsdl = \"bad.bsd\"\n", b"bsdl 1 13 108\n"),
     ] {
         let mut files = shelf(rt.alloc(), head, tail, &[])?;
-        let mut out = MemSink::new(rt.alloc(), 100, 3, Vec::new(rt.alloc()))?;
-        assert_eq!(rt;
-            check(rt.alloc(), "a.toml", &mut files, &mut out),
-            3,
-            "{tail}"
-        );
+        let (status, out) = check(rt.alloc(), "a.toml", &mut files)?;
+        assert_eq!(rt; status, 3, "{tail}");
         assert_eq!(rt; out.written(), line, "{tail}");
     }
     Ok(())
@@ -95,7 +108,7 @@ fn a_refusal_is_told(rt: HostRuntime) -> Result<(), Fail> {
 
 #[test]
 fn a_load_without_bytes_is_told(rt: HostRuntime) -> Result<(), Fail> {
-    for (name, tail, fails, status, line) in [
+    for (name, tail, fails, known, line) in [
         ("b.toml", DEMO, [0], 12, b"absent setup\n".as_slice()),
         (
             "a.toml",
@@ -108,8 +121,8 @@ fn a_load_without_bytes_is_told(rt: HostRuntime) -> Result<(), Fail> {
         ("a.toml", DEMO, [2], 4, b"read fault\n"),
     ] {
         let mut files = shelf(rt.alloc(), ONE, tail, &fails)?;
-        let mut out = MemSink::new(rt.alloc(), 100, 3, Vec::new(rt.alloc()))?;
-        assert_eq!(rt; check(rt.alloc(), name, &mut files, &mut out), status);
+        let (status, out) = check(rt.alloc(), name, &mut files)?;
+        assert_eq!(rt; status, known);
         assert_eq!(rt; out.written(), line);
     }
     Ok(())
@@ -119,7 +132,7 @@ fn a_load_without_bytes_is_told(rt: HostRuntime) -> Result<(), Fail> {
 #[test]
 fn a_setup_has_at_most_a_mebibyte(rt: HostRuntime) -> Result<(), Fail> {
     let alloc = rt.alloc();
-    for (length, status) in [(1_048_576, 0), (1_048_577, 3)] {
+    for (length, known) in [(1_048_576, 0), (1_048_577, 3)] {
         let mut text = String::from_str(alloc, ONE)?;
         text.push_str(DEMO)?;
         let mut bytes = text.as_bytes().to_vec(alloc)?;
@@ -128,8 +141,8 @@ fn a_setup_has_at_most_a_mebibyte(rt: HostRuntime) -> Result<(), Fail> {
         files.push((String::from_str(alloc, "a.toml")?, bytes))?;
         files.push((String::from_str(alloc, "demo.bsd")?, demo(alloc, "0001")?))?;
         let mut shelf = MemShelf::new(alloc, files, Vec::new(alloc));
-        let mut out = MemSink::new(alloc, 500, 100, Vec::new(alloc))?;
-        assert_eq!(rt; check(alloc, "a.toml", &mut shelf, &mut out), status);
+        let (status, out) = check(alloc, "a.toml", &mut shelf)?;
+        assert_eq!(rt; status, known);
         assert!(rt; status == 0 || out.written() == b"setup 1 top\n".as_slice());
     }
     Ok(())

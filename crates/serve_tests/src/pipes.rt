@@ -3,11 +3,11 @@ ghost use Rattle.std.specs.Prelude.{◌≡◌};
 ghost use Rattle.base_types.specs.Tellings.{Told};
 ghost use Rattle.chain_model.specs.Cables.{empty_chain};
 
-use crate::test_files::{BOTH, DEMO, DEMOS, ONE, shelf};
-use crate::{RanLocal, local_command};
+use crate::setup_files::{BOTH, DEMO, DEMOS, ONE, shelf};
 use chain_model::{Bench, Chain, TapeBench};
 use ports::{MemSink, MemSource};
 use scan_bits::Bits;
+use share_top::{RanLocal, local_command};
 use std::alloc::{AllocError, Global};
 use std::test::Fail;
 

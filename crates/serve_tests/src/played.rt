@@ -3,9 +3,9 @@ ghost use Rattle.std.specs.Prelude.{◌≡◌, ◌<◌, ◌≤◌, [], length, O
 ghost use Rattle.wire_port.specs.Calls.{IsOpen, is_end};
 ghost use Rattle.wire_port.specs.Played.{wire_of};
 
-use crate::{Found, Given, PollFault, Poller, Script, ScriptWire, Taken, Wire, read_script};
 use std::alloc::Global;
 use std::test::Fail;
+use wire_port::{Found, Given, PollFault, Poller, Script, ScriptWire, Taken, Wire, read_script};
 
 // The script that a text is.
 fn script(alloc: Global, text: &str) -> Result<Script, Fail> {
