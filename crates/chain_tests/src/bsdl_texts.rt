@@ -152,245 +152,260 @@ fn entity_text(
     Ok(text)
 }
 
+// Texts whose tokens or structure are refused, with the place and the cause.
+const STRUCTURES: [(&str, usize, u8); 39] = [
+    ("", 0, 5),
+    ("x", 0, 5),
+    ("entity", 6, 5),
+    ("entity 5 is", 7, 5),
+    ("entity A as", 9, 5),
+    ("entity A is 5;", 12, 5),
+    ("entity A is end B;", 16, 5),
+    ("entity A is end A", 17, 5),
+    ("entity A is end A ,", 18, 5),
+    ("entity A is end A; x", 19, 5),
+    ("entity A is port ); end A;", 17, 5),
+    ("entity A is port (;", 19, 5),
+    ("entity A is port ((a;b);c) : d); ; end A;", 30, 5),
+    ("entity A is port ((a);(;b;)) ; ;", 31, 5),
+    ("entity A is attribute );", 22, 5),
+    ("entity A is attribute (;", 24, 5),
+    ("entity A is attribute BOUNDARY_LENGTH", 37, 5),
+    ("entity A is attribute x of A : entity is 5", 42, 5),
+    ("entity A is end A;", 12, 6),
+    (
+        "entity A is attribute BOUNDARY_LENGTH of A : entity is 1; END a ;",
+        58,
+        6,
+    ),
+    (
+        "entity A is attribute BOUNDARY_LENGTH of A : entity is 1; attribute boundary_length",
+        68,
+        7,
+    ),
+    (
+        "entity A is attribute Idcode_Register of A : entity is \"1\"; port (x); attribute IDCODE_REGISTER of B",
+        80,
+        7,
+    ),
+    ("entity A is attribute BOUNDARY_LENGTH is", 38, 8),
+    (
+        "entity A is attribute BOUNDARY_LENGTH of B : entity is 1;",
+        41,
+        8,
+    ),
+    ("entity A is attribute BOUNDARY_LENGTH of A ;", 43, 8),
+    (
+        "entity A is attribute BOUNDARY_LENGTH of A : signal is 1;",
+        45,
+        8,
+    ),
+    (
+        "entity A is attribute BOUNDARY_LENGTH of A : entity := 1;",
+        52,
+        8,
+    ),
+    (
+        "entity A is attribute BOUNDARY_LENGTH of A : entity is );",
+        55,
+        8,
+    ),
+    (
+        "entity A is attribute BOUNDARY_LENGTH of A : entity is \"1\";",
+        55,
+        8,
+    ),
+    (
+        "entity A is attribute BOUNDARY_LENGTH of A : entity is 1 & 2;",
+        57,
+        8,
+    ),
+    (
+        "entity A is attribute INSTRUCTION_CAPTURE of A : entity is 1;",
+        59,
+        8,
+    ),
+    (
+        "entity A is attribute INSTRUCTION_CAPTURE of A : entity is \"0\" \"1\";",
+        63,
+        8,
+    ),
+    (
+        "entity A is attribute INSTRUCTION_CAPTURE of A : entity is \"0\" & ;",
+        65,
+        8,
+    ),
+    (
+        "entity A is attribute INSTRUCTION_CAPTURE of A : entity is \"0\" & \"1\" , \"0\";",
+        69,
+        8,
+    ),
+    (
+        "entity A is attribute INSTRUCTION_CAPTURE of A : entity is (\"01\");",
+        59,
+        8,
+    ),
+    ("entity A is port (\x7f", 18, 1),
+    ("entity A is attribute x of \"a\n\";", 27, 2),
+    ("entity A is x 1.5_0;", 14, 3),
+    (ENDS_IN_00, 108, 13),
+];
+
 #[test]
 fn tokens_and_structure_are_refused(rt: HostRuntime) {
     let alloc = rt.alloc();
-    for (text, at, cause) in [
-        ("", 0, 5),
-        ("x", 0, 5),
-        ("entity", 6, 5),
-        ("entity 5 is", 7, 5),
-        ("entity A as", 9, 5),
-        ("entity A is 5;", 12, 5),
-        ("entity A is end B;", 16, 5),
-        ("entity A is end A", 17, 5),
-        ("entity A is end A ,", 18, 5),
-        ("entity A is end A; x", 19, 5),
-        ("entity A is port ); end A;", 17, 5),
-        ("entity A is port (;", 19, 5),
-        ("entity A is port ((a;b);c) : d); ; end A;", 30, 5),
-        ("entity A is port ((a);(;b;)) ; ;", 31, 5),
-        ("entity A is attribute );", 22, 5),
-        ("entity A is attribute (;", 24, 5),
-        ("entity A is attribute BOUNDARY_LENGTH", 37, 5),
-        ("entity A is attribute x of A : entity is 5", 42, 5),
-        ("entity A is end A;", 12, 6),
-        (
-            "entity A is attribute BOUNDARY_LENGTH of A : entity is 1; END a ;",
-            58,
-            6,
-        ),
-        (
-            "entity A is attribute BOUNDARY_LENGTH of A : entity is 1; attribute boundary_length",
-            68,
-            7,
-        ),
-        (
-            "entity A is attribute Idcode_Register of A : entity is \"1\"; port (x); attribute IDCODE_REGISTER of B",
-            80,
-            7,
-        ),
-        ("entity A is attribute BOUNDARY_LENGTH is", 38, 8),
-        (
-            "entity A is attribute BOUNDARY_LENGTH of B : entity is 1;",
-            41,
-            8,
-        ),
-        ("entity A is attribute BOUNDARY_LENGTH of A ;", 43, 8),
-        (
-            "entity A is attribute BOUNDARY_LENGTH of A : signal is 1;",
-            45,
-            8,
-        ),
-        (
-            "entity A is attribute BOUNDARY_LENGTH of A : entity := 1;",
-            52,
-            8,
-        ),
-        (
-            "entity A is attribute BOUNDARY_LENGTH of A : entity is );",
-            55,
-            8,
-        ),
-        (
-            "entity A is attribute BOUNDARY_LENGTH of A : entity is \"1\";",
-            55,
-            8,
-        ),
-        (
-            "entity A is attribute BOUNDARY_LENGTH of A : entity is 1 & 2;",
-            57,
-            8,
-        ),
-        (
-            "entity A is attribute INSTRUCTION_CAPTURE of A : entity is 1;",
-            59,
-            8,
-        ),
-        (
-            "entity A is attribute INSTRUCTION_CAPTURE of A : entity is \"0\" \"1\";",
-            63,
-            8,
-        ),
-        (
-            "entity A is attribute INSTRUCTION_CAPTURE of A : entity is \"0\" & ;",
-            65,
-            8,
-        ),
-        (
-            "entity A is attribute INSTRUCTION_CAPTURE of A : entity is \"0\" & \"1\" , \"0\";",
-            69,
-            8,
-        ),
-        (
-            "entity A is attribute INSTRUCTION_CAPTURE of A : entity is (\"01\");",
-            59,
-            8,
-        ),
-        ("entity A is port (\x7f", 18, 1),
-        ("entity A is attribute x of \"a\n\";", 27, 2),
-        ("entity A is x 1.5_0;", 14, 3),
-        (ENDS_IN_00, 108, 13),
-    ] {
+    for (text, at, cause) in STRUCTURES {
         assert!(rt; refusal(alloc, text.as_bytes()) == Some(BsdlRefusal::Refused { at, cause }));
     }
 }
+
+// Attributes whose values are refused, with the place of the value and the cause.
+const CONTENTS: [(&str, &str, usize, u8); 55] = [
+    ("INSTRUCTION_LENGTH", "4.0", 56, 8),
+    ("INSTRUCTION_LENGTH", "1_0", 56, 8),
+    ("INSTRUCTION_LENGTH", "1234567890", 56, 8),
+    ("BOUNDARY_LENGTH", "1e1", 53, 8),
+    ("INSTRUCTION_OPCODE", "\"EX TEST (00)\"", 56, 8),
+    ("INSTRUCTION_OPCODE", "\"EXTEST 00)\"", 56, 8),
+    ("INSTRUCTION_OPCODE", "\"EXTEST ()\"", 56, 8),
+    ("INSTRUCTION_OPCODE", "\"EXTEST (00),\"", 56, 8),
+    ("INSTRUCTION_OPCODE", "\"EXTEST (0 0)\"", 56, 8),
+    ("INSTRUCTION_OPCODE", "\"\"", 56, 8),
+    ("INSTRUCTION_OPCODE", "\"5X (00)\"", 56, 8),
+    ("INSTRUCTION_OPCODE", "\"A (00,)\"", 56, 8),
+    ("INSTRUCTION_OPCODE", "\"A (02)\"", 56, 8),
+    ("INSTRUCTION_OPCODE", "\"A (00)\" & \" B (01)\"", 56, 8),
+    ("INSTRUCTION_CAPTURE", "\"\"", 57, 8),
+    ("INSTRUCTION_CAPTURE", "\"0,1\"", 57, 8),
+    ("INSTRUCTION_CAPTURE", "\"021\"", 57, 8),
+    ("IDCODE_REGISTER", "\"0,\"", 53, 8),
+    ("IDCODE_REGISTER", "\",0\"", 53, 8),
+    ("USERCODE_REGISTER", "\" \"", 55, 8),
+    ("REGISTER_ACCESS", "\"USER[] (A)\"", 53, 8),
+    ("REGISTER_ACCESS", "\"USER[8 (A)\"", 53, 8),
+    ("REGISTER_ACCESS", "\"USER[1234567890] (A)\"", 53, 8),
+    ("REGISTER_ACCESS", "\"USER (A,)\"", 53, 8),
+    ("REGISTER_ACCESS", "\"USER\"", 53, 8),
+    ("REGISTER_ACCESS", "\"USER[8] CAPTURES (1)\"", 53, 8),
+    ("REGISTER_ACCESS", "\"USER (A B)\"", 53, 8),
+    ("REGISTER_ACCESS", "\"USER (A) (B)\"", 53, 8),
+    ("REGISTER_ACCESS", "\"USER (A CAPTURES (01))\"", 53, 9),
+    ("REGISTER_ACCESS", "\"USER captures (01)\"", 53, 9),
+    ("REGISTER_ACCESS", "\"BOUNDARY (RunBist)\"", 53, 9),
+    ("REGISTER_ACCESS", "\"BOUNDARY (BYPASS, RUNBIST%\"", 53, 9),
+    ("REGISTER_ACCESS", "\"BOUNDARY (RUNBIST\"", 53, 9),
+    ("INSTRUCTION_LENGTH", "1", 56, 11),
+    ("INSTRUCTION_LENGTH", "65", 56, 11),
+    ("INSTRUCTION_OPCODE", "\"A (1), BYPASS (11)\"", 56, 12),
+    ("INSTRUCTION_OPCODE", "\"A (01, 111)\"", 56, 12),
+    ("INSTRUCTION_CAPTURE", "\"001\"", 57, 12),
+    (
+        "USERCODE_REGISTER",
+        "\"111111111111111111111111111111111\"",
+        55,
+        12,
+    ),
+    ("INSTRUCTION_CAPTURE", "\"00\"", 57, 13),
+    ("INSTRUCTION_CAPTURE", "\"11\"", 57, 13),
+    ("INSTRUCTION_CAPTURE", "\"0X\"", 57, 13),
+    ("REGISTER_ACCESS", "\"BYPASS[2] (BYPASS)\"", 53, 14),
+    ("REGISTER_ACCESS", "\"DEVICE_ID[31] (BYPASS)\"", 53, 14),
+    ("REGISTER_ACCESS", "\"BOUNDARY[5] (BYPASS)\"", 53, 14),
+    (
+        "REGISTER_ACCESS",
+        "\"USER[8] (BYPASS), USER[9] (BYPASS)\"",
+        53,
+        14,
+    ),
+    ("REGISTER_ACCESS", "\"USER (BYPASS)\"", 53, 15),
+    ("REGISTER_ACCESS", "\"DEVICE_ID (BYPASS)\"", 53, 15),
+    ("INSTRUCTION_OPCODE", "\"IDCODE (01)\"", 56, 15),
+    ("REGISTER_ACCESS", "\"USER[0] (BYPASS)\"", 53, 16),
+    ("BOUNDARY_LENGTH", "0", 53, 16),
+    ("REGISTER_ACCESS", "\"USER[65537] (BYPASS)\"", 53, 17),
+    ("BOUNDARY_LENGTH", "65537", 53, 17),
+    (
+        "IDCODE_REGISTER",
+        "\"00000000000000000000000000000001\"",
+        53,
+        18,
+    ),
+    ("REGISTER_ACCESS", "\"BOUNDARY (EXTEST)\"", 53, 19),
+];
+
+// Two attributes, of whose faults the first in the order of causes is answered.
+const PAIRS: [((&str, &str), (&str, &str), usize, u8); 9] = [
+    (
+        ("INSTRUCTION_CAPTURE", "\"0 Y\""),
+        ("INSTRUCTION_LENGTH", "1"),
+        57,
+        8,
+    ),
+    (
+        ("INSTRUCTION_OPCODE", "\"A\""),
+        ("REGISTER_ACCESS", "\"BOUNDARY (RUNBIST)\""),
+        56,
+        8,
+    ),
+    (
+        ("IDCODE_REGISTER", "\"0000000000000000000000000000001\""),
+        ("INSTRUCTION_OPCODE", "\"IDCODE (01), BYPASS (11)\""),
+        53,
+        12,
+    ),
+    (
+        ("IDCODE_REGISTER", "\"00000000000000000000000000000000\""),
+        ("INSTRUCTION_OPCODE", "\"IDCODE (01), BYPASS (11)\""),
+        53,
+        18,
+    ),
+    (
+        ("IDCODE_REGISTER", "\"00000000000000000000000000000001\""),
+        ("INSTRUCTION_OPCODE", "\"A (01), IDCODE (01)\""),
+        53,
+        18,
+    ),
+    (
+        ("IDCODE_REGISTER", "\"00000000000000000000000000000001\""),
+        ("INSTRUCTION_OPCODE", "\"IDCODE (11)\""),
+        53,
+        18,
+    ),
+    (
+        ("INSTRUCTION_LENGTH", "1"),
+        ("INSTRUCTION_CAPTURE", "\"00\""),
+        56,
+        11,
+    ),
+    (
+        ("INSTRUCTION_OPCODE", "\"A (1)\""),
+        ("INSTRUCTION_CAPTURE", "\"00\""),
+        56,
+        12,
+    ),
+    (
+        ("REGISTER_ACCESS", "\"USER (BYPASS)\""),
+        ("BOUNDARY_LENGTH", "0"),
+        53,
+        15,
+    ),
+];
 
 // The place is that of the first attribute's value.
 #[test]
 fn contents_and_plans_are_refused(rt: HostRuntime) -> Result<(), AllocError> {
     let alloc = rt.alloc();
-    for (name, value, at, cause) in [
-        ("INSTRUCTION_LENGTH", "4.0", 56, 8),
-        ("INSTRUCTION_LENGTH", "1_0", 56, 8),
-        ("INSTRUCTION_LENGTH", "1234567890", 56, 8),
-        ("BOUNDARY_LENGTH", "1e1", 53, 8),
-        ("INSTRUCTION_OPCODE", "\"EX TEST (00)\"", 56, 8),
-        ("INSTRUCTION_OPCODE", "\"EXTEST 00)\"", 56, 8),
-        ("INSTRUCTION_OPCODE", "\"EXTEST ()\"", 56, 8),
-        ("INSTRUCTION_OPCODE", "\"EXTEST (00),\"", 56, 8),
-        ("INSTRUCTION_OPCODE", "\"EXTEST (0 0)\"", 56, 8),
-        ("INSTRUCTION_OPCODE", "\"\"", 56, 8),
-        ("INSTRUCTION_OPCODE", "\"5X (00)\"", 56, 8),
-        ("INSTRUCTION_OPCODE", "\"A (00,)\"", 56, 8),
-        ("INSTRUCTION_OPCODE", "\"A (02)\"", 56, 8),
-        ("INSTRUCTION_OPCODE", "\"A (00)\" & \" B (01)\"", 56, 8),
-        ("INSTRUCTION_CAPTURE", "\"\"", 57, 8),
-        ("INSTRUCTION_CAPTURE", "\"0,1\"", 57, 8),
-        ("INSTRUCTION_CAPTURE", "\"021\"", 57, 8),
-        ("IDCODE_REGISTER", "\"0,\"", 53, 8),
-        ("IDCODE_REGISTER", "\",0\"", 53, 8),
-        ("USERCODE_REGISTER", "\" \"", 55, 8),
-        ("REGISTER_ACCESS", "\"USER[] (A)\"", 53, 8),
-        ("REGISTER_ACCESS", "\"USER[8 (A)\"", 53, 8),
-        ("REGISTER_ACCESS", "\"USER[1234567890] (A)\"", 53, 8),
-        ("REGISTER_ACCESS", "\"USER (A,)\"", 53, 8),
-        ("REGISTER_ACCESS", "\"USER\"", 53, 8),
-        ("REGISTER_ACCESS", "\"USER[8] CAPTURES (1)\"", 53, 8),
-        ("REGISTER_ACCESS", "\"USER (A B)\"", 53, 8),
-        ("REGISTER_ACCESS", "\"USER (A) (B)\"", 53, 8),
-        ("REGISTER_ACCESS", "\"USER (A CAPTURES (01))\"", 53, 9),
-        ("REGISTER_ACCESS", "\"USER captures (01)\"", 53, 9),
-        ("REGISTER_ACCESS", "\"BOUNDARY (RunBist)\"", 53, 9),
-        ("REGISTER_ACCESS", "\"BOUNDARY (BYPASS, RUNBIST%\"", 53, 9),
-        ("REGISTER_ACCESS", "\"BOUNDARY (RUNBIST\"", 53, 9),
-        ("INSTRUCTION_LENGTH", "1", 56, 11),
-        ("INSTRUCTION_LENGTH", "65", 56, 11),
-        ("INSTRUCTION_OPCODE", "\"A (1), BYPASS (11)\"", 56, 12),
-        ("INSTRUCTION_OPCODE", "\"A (01, 111)\"", 56, 12),
-        ("INSTRUCTION_CAPTURE", "\"001\"", 57, 12),
-        (
-            "USERCODE_REGISTER",
-            "\"111111111111111111111111111111111\"",
-            55,
-            12,
-        ),
-        ("INSTRUCTION_CAPTURE", "\"00\"", 57, 13),
-        ("INSTRUCTION_CAPTURE", "\"11\"", 57, 13),
-        ("INSTRUCTION_CAPTURE", "\"0X\"", 57, 13),
-        ("REGISTER_ACCESS", "\"BYPASS[2] (BYPASS)\"", 53, 14),
-        ("REGISTER_ACCESS", "\"DEVICE_ID[31] (BYPASS)\"", 53, 14),
-        ("REGISTER_ACCESS", "\"BOUNDARY[5] (BYPASS)\"", 53, 14),
-        (
-            "REGISTER_ACCESS",
-            "\"USER[8] (BYPASS), USER[9] (BYPASS)\"",
-            53,
-            14,
-        ),
-        ("REGISTER_ACCESS", "\"USER (BYPASS)\"", 53, 15),
-        ("REGISTER_ACCESS", "\"DEVICE_ID (BYPASS)\"", 53, 15),
-        ("INSTRUCTION_OPCODE", "\"IDCODE (01)\"", 56, 15),
-        ("REGISTER_ACCESS", "\"USER[0] (BYPASS)\"", 53, 16),
-        ("BOUNDARY_LENGTH", "0", 53, 16),
-        ("REGISTER_ACCESS", "\"USER[65537] (BYPASS)\"", 53, 17),
-        ("BOUNDARY_LENGTH", "65537", 53, 17),
-        (
-            "IDCODE_REGISTER",
-            "\"00000000000000000000000000000001\"",
-            53,
-            18,
-        ),
-        ("REGISTER_ACCESS", "\"BOUNDARY (EXTEST)\"", 53, 19),
-    ] {
+    for (name, value, at, cause) in CONTENTS {
         let text = entity_text(alloc, (name, value), ("COMPONENT_CONFORMANCE", "x"))?;
         assert!(rt; refusal(alloc, text.as_bytes()) == Some(BsdlRefusal::Refused { at, cause }));
     }
-    for (first, second, at, cause) in [
-        (
-            ("INSTRUCTION_CAPTURE", "\"0 Y\""),
-            ("INSTRUCTION_LENGTH", "1"),
-            57,
-            8,
-        ),
-        (
-            ("INSTRUCTION_OPCODE", "\"A\""),
-            ("REGISTER_ACCESS", "\"BOUNDARY (RUNBIST)\""),
-            56,
-            8,
-        ),
-        (
-            ("IDCODE_REGISTER", "\"0000000000000000000000000000001\""),
-            ("INSTRUCTION_OPCODE", "\"IDCODE (01), BYPASS (11)\""),
-            53,
-            12,
-        ),
-        (
-            ("IDCODE_REGISTER", "\"00000000000000000000000000000000\""),
-            ("INSTRUCTION_OPCODE", "\"IDCODE (01), BYPASS (11)\""),
-            53,
-            18,
-        ),
-        (
-            ("IDCODE_REGISTER", "\"00000000000000000000000000000001\""),
-            ("INSTRUCTION_OPCODE", "\"A (01), IDCODE (01)\""),
-            53,
-            18,
-        ),
-        (
-            ("IDCODE_REGISTER", "\"00000000000000000000000000000001\""),
-            ("INSTRUCTION_OPCODE", "\"IDCODE (11)\""),
-            53,
-            18,
-        ),
-        (
-            ("INSTRUCTION_LENGTH", "1"),
-            ("INSTRUCTION_CAPTURE", "\"00\""),
-            56,
-            11,
-        ),
-        (
-            ("INSTRUCTION_OPCODE", "\"A (1)\""),
-            ("INSTRUCTION_CAPTURE", "\"00\""),
-            56,
-            12,
-        ),
-        (
-            ("REGISTER_ACCESS", "\"USER (BYPASS)\""),
-            ("BOUNDARY_LENGTH", "0"),
-            53,
-            15,
-        ),
-    ] {
+    Ok(())
+}
+
+#[test]
+fn the_first_cause_in_order_is_answered(rt: HostRuntime) -> Result<(), AllocError> {
+    let alloc = rt.alloc();
+    for (first, second, at, cause) in PAIRS {
         let text = entity_text(alloc, first, second)?;
         assert!(rt; refusal(alloc, text.as_bytes()) == Some(BsdlRefusal::Refused { at, cause }));
     }
