@@ -22,6 +22,7 @@ pub mod Places
 pub mod Taking
 pub mod Splits
 pub mod Adjacent
+pub mod Around
 pub mod Weaving
 pub mod Gathering
 pub mod Woven

@@ -1,11 +1,13 @@
 // What a scan of the shared chain is for, device by device.
-ghost use Rattle.std.specs.Prelude.{◌≡◌, ◌≢◌, ◌≤◌, ◌<◌, ◌+◌, ◌*◌, ◌^◌, ◌==◌, length, slice_get, true, false, Some, None};
+ghost use Rattle.std.specs.Prelude.{ℕ, ◌≡◌, ◌≢◌, ◌≤◌, ◌<◌, ◌+◌, ◌*◌, ◌^◌, ◌==◌, length, slice_get, true, false, Some, None};
+ghost use Rattle.std.specs.List.{slice_index_or};
 ghost use Rattle.grant_table.specs.Layouts.{first_place};
 ghost use Rattle.scan_share.specs.Lengths.{own_length};
 ghost use Rattle.scan_share.specs.Written.{group_widths};
-ghost use Rattle.scan_share.specs.Rows.{IsScanOf, IsSplit, own_codes, scan_words};
+ghost use Rattle.scan_share.specs.Rows.{AreNeighbours, IsScanOf, IsSplit, own_codes, scan_words};
 
 use crate::codes::{Codes, bypass_code};
+use crate::neighbours::are_neighbours;
 use crate::scan_length::{Widths, own_length, put_widths};
 use grant_table::Layout;
 use std::marker::Model;
@@ -83,14 +85,12 @@ impl<'a> Scan<'a> {
         (bypass_code(self.layout.part(place)), own)
     }
 
-    /// Whether these are the codes of all devices during the scan.
-    pub fn is_loaded(&self, loaded: &[u64]) -> bool
+    // Whether these are the codes of all devices during the scan, as many as there are.
+    fn each_is_loaded(&self, loaded: &[u64]) -> bool
+        requires { length loaded.now ≡ length self.now.layout.parts }
         ensures same { result ≡ true → loaded.now ≡ scan_words self.now }
         ensures differ { result ≡ false → loaded.now ≢ scan_words self.now }
     {
-        if loaded.len() != self.devices() {
-            return false;
-        }
         let mut own = 0;
         for place in 0..loaded.len() {
             let (code, next) = self.code(place, own);
@@ -100,6 +100,74 @@ impl<'a> Scan<'a> {
             own = next;
         }
         true
+    }
+
+    // Whether the devices from one place up to another, none of which is of the group, have the code of BYPASS among these.
+    fn are_bypassed(&self, loaded: &[u64], from: usize, to: usize) -> bool
+        requires long { length loaded.now ≡ length self.now.layout.parts }
+        requires within { to ≤ length loaded.now }
+        requires others { (place : ℕ) → from ≤ place → place < to → first_place (λ other. other == place) self.now.group ≡ None }
+        ensures same { result ≡ true → (place : ℕ) → from ≤ place → place < to → slice_get loaded.now place ≡ slice_get (scan_words self.now) place }
+        ensures differ { result ≡ false → loaded.now ≢ scan_words self.now }
+    {
+        let _devices = self.devices();
+        for place in from..to {
+            if loaded[place] != bypass_code(self.layout.part(place)) {
+                return false;
+            }
+        }
+        true
+    }
+
+    // Whether the devices of the group, which are neighbours from this place on, have their codes among these.
+    fn own_are_loaded(&self, loaded: &[u64], first: usize) -> bool
+        requires long { length loaded.now ≡ length self.now.layout.parts }
+        requires neighbours { AreNeighbours self.now.group }
+        requires first { first ≡ slice_index_or self.now.group 0 0 }
+        ensures same { result ≡ true → (place : ℕ) → first ≤ place → place < first + length self.now.group → slice_get loaded.now place ≡ slice_get (scan_words self.now) place }
+        ensures differ { result ≡ false → loaded.now ≢ scan_words self.now }
+    {
+        let _devices = self.devices();
+        let codes = self.codes;
+        for i in 0..codes.len() {
+            if loaded[first + i] != codes[i] {
+                return false;
+            }
+        }
+        true
+    }
+
+    // The same for a group of neighbours.
+    fn neighbours_are_loaded(&self, loaded: &[u64]) -> bool
+        requires long { length loaded.now ≡ length self.now.layout.parts }
+        requires neighbours { AreNeighbours self.now.group }
+        ensures same { result ≡ true → loaded.now ≡ scan_words self.now }
+        ensures differ { result ≡ false → loaded.now ≢ scan_words self.now }
+    {
+        let _devices = self.devices();
+        let first = self.group[0];
+        let behind = first + self.group.len();
+        if !self.own_are_loaded(loaded, first) {
+            return false;
+        }
+        if !self.are_bypassed(loaded, 0, first) {
+            return false;
+        }
+        self.are_bypassed(loaded, behind, loaded.len())
+    }
+
+    /// Whether these are the codes of all devices during the scan.
+    pub fn is_loaded(&self, loaded: &[u64]) -> bool
+        ensures same { result ≡ true → loaded.now ≡ scan_words self.now }
+        ensures differ { result ≡ false → loaded.now ≢ scan_words self.now }
+    {
+        if loaded.len() != self.devices() {
+            return false;
+        }
+        if are_neighbours(self.group) {
+            return self.neighbours_are_loaded(loaded);
+        }
+        self.each_is_loaded(loaded)
     }
 
     /// Makes these the codes of all devices during the scan.

@@ -1,7 +1,7 @@
 use Rattle.std.proofs.Common.{◌≡◌, ◌<◌, ℕ}
 use Rattle.std.specs.Prelude.{slice_get}
 use Rattle.scan_share.specs.Rows.{IsSplit, scan_words}
-use Rattle.scan_share.proofs.scan.Scan.is_loaded.Given as goal
+use Rattle.scan_share.proofs.scan.Scan.each_is_loaded.Given as goal
 
 abbrev pub invariant-loop-place : goal.invariant-loop-place
 invariant-loop-place l = record {
