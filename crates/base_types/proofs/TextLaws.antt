@@ -1,19 +1,27 @@
 -- Letters in capitals are text.
-use Rattle.std.proofs.Common.{◌≡◌, ℕ, ◌≤◌, List, ◌++◌, map, drop, take, length, sym, ap, ◌∙◌}
+use Rattle.std.proofs.Common.{◌≡◌, ℕ, ◌+◌, ◌-◌, ◌≤◌, ◌<◌, List, [], ◌∷◌, ◌++◌, map, drop, take, set, length, refl, sym, ap, ◌∙◌}
 use Rattle.std.specs.Str.{IsAscii, IsUtf8}
 use Rattle.std.specs.Char.{to_ascii_uppercase}
-use Rattle.std.proofs.lemmas.Str.{IsUtf8-from_ascii}
-use Rattle.std.proofs.lemmas.Str.Ascii.{IsAscii-map, uppercase_ascii}
-use Rattle.std.proofs.Math.Seq.{take-append_seam}
-use Rattle.std.proofs.lemmas.List.{append-nil, length-map, map-append}
+use Rattle.std.proofs.lemmas.Str.{IsUtf8-append, IsUtf8-from_ascii, IsUtf8-had}
+use Rattle.std.proofs.lemmas.Str.Ascii.{IsAscii-cons, IsAscii-map, IsAscii-nil, uppercase_ascii}
+use Rattle.std.proofs.lemmas.Slice.{take-put_mid}
+use borrow.Rule.Slice.PartMut.{put_mid}
+use Rattle.std.proofs.lemmas.List.{append-nil, take-map, take_more_set}
 use Rattle.std.proofs.Math.ListN.{drop_of_length-le}
 
--- the capitals of the front are the front of all capitals
-pub front_capitals : (letters spare lanes : List ℕ) → lanes ≡ map to_ascii_uppercase (letters ++ spare) → take (length letters) lanes ≡ map to_ascii_uppercase letters
-front_capitals letters spare lanes is =
-    let capitals = map to_ascii_uppercase letters in
-    ap (take (length letters)) (is ∙ map-append to_ascii_uppercase letters spare)
-    ∙ ap (λ count. take count (capitals ++ map to_ascii_uppercase spare)) (sym (length-map letters to_ascii_uppercase)) ∙ take-append_seam capitals _
+-- the front of the capitals are the capitals of the front
+pub front_of_capitals : (count : ℕ) (bytes lanes capitals : List ℕ) → capitals ≡ map to_ascii_uppercase lanes → take count lanes ≡ take count bytes → take count capitals ≡ map to_ascii_uppercase (take count bytes)
+front_of_capitals count bytes lanes capitals is same = ap (take count) is ∙ take-map to_ascii_uppercase count lanes ∙ ap (map to_ascii_uppercase) same
+
+-- a text with one more ASCII letter
+pub with_letter_is_text : (bytes : List ℕ) (count letter : ℕ) → ∥ IsUtf8 (take count bytes) ∥₁ → count < length bytes → letter < 128 → IsUtf8 (take (count + 1) (set bytes count letter))
+with_letter_is_text bytes count letter text room ascii =
+    rw (take_more_set bytes count letter room) (IsUtf8-append _ _ (IsUtf8-had _ text) (IsUtf8-from_ascii _ (IsAscii-cons letter [] ascii IsAscii-nil)))
+
+-- a text with a text behind it
+pub with_text_is_text : (bytes text : List ℕ) (count : ℕ) → ∥ IsUtf8 (take count bytes) ∥₁ → count ≤ length bytes → IsUtf8 text → IsUtf8 (take (count + length text) (put_mid count (count + length text - count) bytes text))
+with_text_is_text bytes text count front room is =
+    rw (take-put_mid count (count + length text - count) bytes text (count + length text) refl room) (IsUtf8-append _ _ (IsUtf8-had _ front) is)
 
 -- what was written is all, where nothing is left
 written_is_all : (written letters : List ℕ) (count : ℕ) → written ++ map to_ascii_uppercase (drop count letters) ≡ map to_ascii_uppercase letters → length letters ≤ count → written ≡ map to_ascii_uppercase letters

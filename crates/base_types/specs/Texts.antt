@@ -4,7 +4,7 @@ use Rattle.base_types.specs.declared.text.Letters.{Letters}
 use Rattle.base_types.specs.declared.text.Letters.TheVariants.{Short, Long}
 
 abbrev pub bytes_of : Letters → List ℕ
-bytes_of (Short short) = short.bytes
+bytes_of (Short short) = short
 bytes_of (Long long) = string_bytes long
 
 -- letters in a string of their own are too many to lie in the value itself

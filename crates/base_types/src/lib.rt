@@ -5,6 +5,7 @@
 mod failing_calls;
 mod items;
 mod laws;
+mod short_letters;
 mod text;
 
 pub use failing_calls::FailingCalls;

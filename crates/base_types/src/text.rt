@@ -1,22 +1,17 @@
 // A text that is seen as its bytes.
-ghost use Rattle.std.specs.Prelude.{◌≡◌, ◌+◌, ◌≤◌, ◌<◌, [], ◌∷◌, ◌++◌, length, map, eqb, string_bytes, encode_utf8, IsOk, IfOk, OnOk, OnErr};
+ghost use Rattle.std.specs.Prelude.{◌≡◌, ◌+◌, ◌≤◌, ◌<◌, [], ◌∷◌, ◌++◌, length, take, map, eqb, string_bytes, encode_utf8, IsOk, IfOk, OnOk, OnErr};
 ghost use Rattle.std.specs.Str.{IsAscii};
 ghost use Rattle.std.specs.Char.{to_ascii_uppercase};
 ghost use Rattle.base_types.specs.Texts.{bytes_of, HasPlace};
 
-use arrayvec::ArrayString;
+use crate::short_letters::{INLINE, ShortLetters};
 use std::alloc::{AllocError, Global};
 use std::marker::Model;
-use std::simd::prelude::*;
-use std::str;
-
-// At most so many bytes take no memory.
-const INLINE: usize = 16;
 
 // The letters of a text: in the value itself where they are few.
 #[derive(Drop)]
 enum Letters {
-    Short(ArrayString<16>),
+    Short(ShortLetters),
     Long(String),
 }
 
@@ -45,7 +40,7 @@ impl Text {
         ensures { result ≡ [] }
     {
         Text {
-            letters: Letters::Short(ArrayString::new()),
+            letters: Letters::Short(ShortLetters::new()),
         }
     }
 
@@ -54,9 +49,10 @@ impl Text {
         ensures ok { IfOk result (λ made. made ≡ text.now) }
         ensures short { length text.now ≤ 16 → IsOk result }
     {
-        let letters = match ArrayString::from(text) {
-            Ok(short) => Letters::Short(short),
-            Err(_) => Letters::Long(String::from_str(alloc, text)?),
+        let letters = if text.len() <= INLINE {
+            Letters::Short(ShortLetters::from_str(text))
+        } else {
+            Letters::Long(String::from_str(alloc, text)?)
         };
         Ok(Text { letters })
     }
@@ -67,10 +63,21 @@ impl Text {
         ensures ok { IfOk result (λ made. made ≡ map to_ascii_uppercase letters.now) }
         ensures short { length letters.now ≤ 16 → IsOk result }
     {
-        let letters = if letters.len() <= INLINE {
-            Letters::Short(short_capitals(letters))
+        Text::front_capitals(alloc, letters, letters.len())
+    }
+
+    /// The text of the first `count` of these ASCII bytes, its letters in capitals. Takes no memory for at most 16 bytes.
+    #[inline]
+    pub fn front_capitals(alloc: Global, bytes: &[u8], count: usize) -> Result<Text, AllocError>
+        requires within { count ≤ length bytes.now }
+        requires ascii { IsAscii (take count bytes.now) }
+        ensures ok { IfOk result (λ made. made ≡ map to_ascii_uppercase (take count bytes.now)) }
+        ensures short { count ≤ 16 → IsOk result }
+    {
+        let letters = if count <= INLINE {
+            Letters::Short(ShortLetters::front_capitals(bytes, count))
         } else {
-            Letters::Long(long_capitals(alloc, letters)?)
+            Letters::Long(long_capitals(alloc, &bytes[..count])?)
         };
         Ok(Text { letters })
     }
@@ -81,7 +88,7 @@ impl Text {
         ensures short { length self.now ≤ 16 → IsOk result }
     {
         let letters = match &self.letters {
-            Letters::Short(short) => Letters::Short(*short),
+            Letters::Short(short) => Letters::Short(short.copy()),
             Letters::Long(long) => Letters::Long(String::from_str(alloc, long.as_str())?),
         };
         Ok(Text { letters })
@@ -101,7 +108,10 @@ impl Text {
     pub fn len(&self) -> usize
         ensures { result ≡ length self.now }
     {
-        self.as_str().len()
+        match &self.letters {
+            Letters::Short(short) => short.len(),
+            Letters::Long(long) => long.len(),
+        }
     }
 
     /// Whether it has no byte.
@@ -143,7 +153,7 @@ fn push_letter(alloc: Global, letters: &mut Letters, letter: char) -> Result<(),
 {
     match letters {
         Letters::Short(short) => {
-            if short.try_push(letter).is_err() {
+            if !short.try_push(letter) {
                 let long = with_letter(alloc, short.as_str(), letter)?;
                 *letters = Letters::Long(long);
             }
@@ -161,32 +171,6 @@ fn with_letter(alloc: Global, front: &str, letter: char) -> Result<String, Alloc
     string.push_str(front)?;
     string.push(letter)?;
     Ok(string)
-}
-
-// Sixteen bytes, their letters in capitals.
-#[inline(always)]
-fn in_capitals(bytes: u8x16) -> u8x16
-    ensures { result ≡ map to_ascii_uppercase bytes }
-{
-    let from_letter = bytes - u8x16::splat(b'a');
-    from_letter
-        .simd_lt(u8x16::splat(26))
-        .select(bytes - u8x16::splat(b'a' - b'A'), bytes)
-}
-
-fn short_capitals(letters: &[u8]) -> ArrayString<16>
-    requires ascii { IsAscii letters.now }
-    requires short { length letters.now ≤ 16 }
-    ensures { result.bytes ≡ map to_ascii_uppercase letters.now }
-{
-    let mut bytes = [0; INLINE];
-    bytes[..letters.len()].copy_from_slice(letters);
-    let capitals = in_capitals(u8x16::from_array(bytes)).to_array();
-    // SAFETY: capitals of ASCII bytes are ASCII, and so UTF-8.
-    let text = unsafe { str::from_utf8_unchecked(&capitals[..letters.len()]) };
-    let mut short = ArrayString::new();
-    short.push_str(text);
-    short
 }
 
 fn long_capitals(alloc: Global, letters: &[u8]) -> Result<String, AllocError>
@@ -218,6 +202,19 @@ mod tests {
         let few = Text::capitals(rt.alloc(), b"Bypass_register1")?;
         assert_eq!(rt; few.as_str(), "BYPASS_REGISTER1");
         let many = Text::capitals(rt.alloc(), b"Bypass_register12")?;
+        assert_eq!(rt; many.as_str(), "BYPASS_REGISTER12");
+        Ok(())
+    }
+
+    #[test]
+    fn capitals_of_a_front_end_with_it(rt: HostRuntime) -> Result<(), Fail> {
+        let line = "reg1 : in bit; -- é".as_bytes();
+        let few = Text::front_capitals(rt.alloc(), line, 4)?;
+        assert_eq!(rt; few.as_str(), "REG1");
+        assert_eq!(rt; few.len(), 4);
+        let last = Text::front_capitals(rt.alloc(), b"end reg1;", 8)?;
+        assert_eq!(rt; last.as_str(), "END REG1");
+        let many = Text::front_capitals(rt.alloc(), b"Bypass_register12: in", 17)?;
         assert_eq!(rt; many.as_str(), "BYPASS_REGISTER12");
         Ok(())
     }
