@@ -1,5 +1,5 @@
 -- Capitals of sixteen bytes, computed lane by lane.
-use Rattle.std.proofs.Common.{◌≡◌, ℕ, ◌+◌, ◌-◌, ◌%◌, Bool, true, List, [], ◌∷◌, map, length, refl, ap₂, ◌∙◌, w8, Fits, eqb, cond, replicate, nat_lt}
+use Rattle.std.proofs.Common.{◌≡◌, ℕ, ◌+◌, ◌-◌, ◌%◌, true, List, [], ◌∷◌, map, length, refl, ap₂, ◌∙◌, w8, Fits, eqb, cond, replicate, nat_lt}
 use Rattle.std.proofs.lemmas.Bool.{agree_below, agree_below_at, eqb-true}
 use Rattle.std.proofs.lemmas.Simd.{zip2_splat, zip2_of_maps, splat_is_map}
 use Rattle.std.specs.Char.{to_ascii_uppercase}

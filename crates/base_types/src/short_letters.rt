@@ -1,5 +1,5 @@
 // The letters of a short text.
-ghost use Rattle.std.specs.Prelude.{◌≡◌, ◌+◌, ◌≤◌, ◌<◌, [], ◌∷◌, ◌++◌, length, take, map, eqb, encode_utf8, IsOk, OnOk, OnErr, ◌↔◌, true, false};
+ghost use Rattle.std.specs.Prelude.{◌≡◌, ◌+◌, ◌≤◌, ◌<◌, [], ◌∷◌, ◌++◌, length, take, map, encode_utf8, ◌↔◌, true, false};
 ghost use Rattle.std.specs.Str.{IsAscii};
 ghost use Rattle.std.specs.Char.{to_ascii_uppercase};
 
@@ -155,6 +155,7 @@ fn front(bytes: &[u8], count: usize) -> u8x16
 }
 
 // Sixteen bytes that begin with these.
+#[inline(never)]
 fn padded(bytes: &[u8]) -> [u8; INLINE]
     requires { length bytes.now ≤ 16 }
     ensures { take (length bytes.now) result ≡ bytes.now }

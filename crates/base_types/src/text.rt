@@ -58,6 +58,7 @@ impl Text {
     }
 
     /// The text of these ASCII bytes, its letters in capitals. Takes no memory for at most 16 bytes.
+    #[inline]
     pub fn capitals(alloc: Global, letters: &[u8]) -> Result<Text, AllocError>
         requires { IsAscii letters.now }
         ensures ok { IfOk result (λ made. made ≡ map to_ascii_uppercase letters.now) }
@@ -95,6 +96,7 @@ impl Text {
     }
 
     /// The text, to be read.
+    #[inline]
     pub fn as_str(&self) -> &str
         ensures { result.now ≡ self.now }
     {
@@ -105,6 +107,7 @@ impl Text {
     }
 
     /// How many bytes the text has.
+    #[inline]
     pub fn len(&self) -> usize
         ensures { result ≡ length self.now }
     {
@@ -115,6 +118,7 @@ impl Text {
     }
 
     /// Whether it has no byte.
+    #[inline]
     pub fn is_empty(&self) -> bool
         ensures { result ≡ eqb (length self.now) 0 }
     {
@@ -173,6 +177,7 @@ fn with_letter(alloc: Global, front: &str, letter: char) -> Result<String, Alloc
     Ok(string)
 }
 
+#[inline(never)]
 fn long_capitals(alloc: Global, letters: &[u8]) -> Result<String, AllocError>
     requires { IsAscii letters.now }
     ensures { IfOk result (λ string. string_bytes string ≡ map to_ascii_uppercase letters.now) }
