@@ -1,4 +1,5 @@
 pub mod Masks
+pub mod Fronts
 pub mod Reading
 pub mod Forms
 pub mod Sound

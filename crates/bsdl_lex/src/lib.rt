@@ -105,18 +105,6 @@ enum Class {
     Text,
 }
 
-fn belongs(class: Class, byte: u8) -> bool
-    ensures { result ≡ t.belongs class byte }
-{
-    match class {
-        Class::Word => in_word(byte),
-        Class::Number => is_digit(byte) || byte == b'_',
-        Class::Digit => is_digit(byte),
-        Class::Comment => byte != 10 && byte != 13,
-        Class::Text => byte == 9 || (32 <= byte && byte <= 126 && byte != b'"'),
-    }
-}
-
 /// How many bytes of a class stand at the front.
 fn run(class: Class, text: &[u8]) -> usize
     ensures is { result ≡ prefix_len (t.belongs class) text.now }
@@ -133,16 +121,15 @@ fn run(class: Class, text: &[u8]) -> usize
     count + short_run(class, text.split_at(count).1)
 }
 
-/// The same, byte by byte: for a text of less than sixteen.
+/// The same for a text of at most sixteen, with zeros behind it.
 fn short_run(class: Class, text: &[u8]) -> usize
+    requires { length text.now ≤ 16 }
     ensures is { result ≡ prefix_len (t.belongs class) text.now }
     ensures bound { result ≤ length text.now }
 {
-    let mut count = 0;
-    while count < text.len() && belongs(class, text[count]) {
-        count += 1;
-    }
-    count
+    let mut lanes = [0; LANES];
+    lanes[..text.len()].copy_from_slice(text);
+    leading(class, u8x16::from_array(lanes)).min(text.len())
 }
 
 /// How many bytes that may stand in a word stand at the front.
