@@ -101,44 +101,48 @@ second_there true second value other is = refl
 second_there false true value other is = refl
 second_there false false value other is = absurd (cc is)
 
-there_case : {V : Type 0} (test : Bool) (value : V) → is_some (value_if test value) ≡ true → test ≡ true
-there_case true value some = refl
-there_case false value some = absurd (cc some)
+set_case : {V : Type 0} (test : Bool) (old : Option V) (value : V) → value_if test (option_or old (Some value)) ≡ filled test value (value_if test old)
+set_case true None value = refl
+set_case true (Some kept) value = refl
+set_case false old value = refl
 
-put_case : {V : Type 0} (test : Bool) (old value : V) → value_if test value ≡ (if test then Some value else value_if test old)
-put_case true old value = refl
-put_case false old value = refl
+-- a value where one name stands
+pub one_set : {V : Type 0} (kept name other : List ℕ) (old : Option V) (value : V) → same_name name kept ≡ true → value_if (same_name other kept) (option_or old (Some value)) ≡ filled (same_name other name) value (value_if (same_name other kept) old)
+one_set kept name other old value same = set_case (same_name other kept) old value
+    ∙ ap (λ found. filled (same_name other found) value (value_if (same_name other kept) old)) (sym (same_is name kept same))
 
--- another value where one name stands
-pub one_put : {V : Type 0} (kept name other : List ℕ) (old value : V) → is_some (value_if (same_name name kept) old) ≡ true → value_if (same_name other kept) value ≡ (if same_name other name then Some value else value_if (same_name other kept) old)
-one_put kept name other old value some = put_case (same_name other kept) old value
-    ∙ ap (λ found. if same_name other found then Some value else value_if (same_name other kept) old) (sym (same_is name kept (there_case (same_name name kept) old some)))
+first_case : {V : Type 0} (test : Bool) (old : Option V) (more : Option (Option V)) (value : V) → option_or (value_if test (option_or old (Some value))) more ≡ filled test value (option_or (value_if test old) more)
+first_case true None more value = refl
+first_case true (Some kept) more value = refl
+first_case false old more value = refl
 
-first_case : {V : Type 0} (test : Bool) (old value : V) (more : Option V) → option_or (value_if test value) more ≡ (if test then Some value else option_or (value_if test old) more)
-first_case true old value more = refl
-first_case false old value more = refl
+-- a value for the first of two names
+pub first_set : {V : Type 0} (first second name other : List ℕ) (old more : Option V) (value : V) → same_name name first ≡ true
+    → option_or (value_if (same_name other first) (option_or old (Some value))) (value_if (same_name other second) more) ≡ filled (same_name other name) value (option_or (value_if (same_name other first) old) (value_if (same_name other second) more))
+first_set first second name other old more value same = first_case (same_name other first) old (value_if (same_name other second) more) value
+    ∙ ap (λ found. filled (same_name other found) value (option_or (value_if (same_name other first) old) (value_if (same_name other second) more))) (sym (same_is name first same))
 
--- another value for the first of two names
-pub first_put : {V : Type 0} (first second name other : List ℕ) (old value more : V) → same_name name first ≡ true → option_or (value_if (same_name other first) value) (value_if (same_name other second) more) ≡ (if same_name other name then Some value else option_or (value_if (same_name other first) old) (value_if (same_name other second) more))
-first_put first second name other old value more same = first_case (same_name other first) old value (value_if (same_name other second) more)
-    ∙ ap (λ found. if same_name other found then Some value else option_or (value_if (same_name other first) old) (value_if (same_name other second) more)) (sym (same_is name first same))
-
-stands_second : {V : Type 0} (first second : Bool) (value other : V) → first ≡ false → is_some (option_or (value_if first value) (value_if second other)) ≡ true → second ≡ true
-stands_second true second value other apart some = absurd (cc apart)
-stands_second false second value other apart some = there_case second other some
-
-second_case : {V : Type 0} (first second : Bool) (front old value : V) → (second ≡ true → first ≡ false) → option_or (value_if first front) (value_if second value) ≡ (if second then Some value else option_or (value_if first front) (value_if second old))
+second_case : {V : Type 0} (first second : Bool) (front old : Option V) (value : V) → (second ≡ true → first ≡ false) → option_or (value_if first front) (value_if second (option_or old (Some value))) ≡ filled second value (option_or (value_if first front) (value_if second old))
 second_case true true front old value apart = absurd (cc (apart refl))
-second_case false true front old value apart = refl
+second_case false true front None value apart = refl
+second_case false true front (Some kept) value apart = refl
 second_case first false front old value apart = refl
 
--- another value for the second of two names
-pub second_put : {V : Type 0} (first second name other : List ℕ) (front old value : V) → same_name name first ≡ false → is_some (option_or (value_if (same_name name first) front) (value_if (same_name name second) old)) ≡ true
-    → option_or (value_if (same_name other first) front) (value_if (same_name other second) value) ≡ (if same_name other name then Some value else option_or (value_if (same_name other first) front) (value_if (same_name other second) old))
-second_put first second name other front old value apart some =
-    let is : name ≡ second = same_is name second (stands_second (same_name name first) (same_name name second) front old apart some) in
-    second_case (same_name other first) (same_name other second) front old value (λ same. ap (λ found. same_name found first) (same_is other second same ∙ sym is) ∙ apart)
-    ∙ ap (λ found. if same_name other found then Some value else option_or (value_if (same_name other first) front) (value_if (same_name other second) old)) (sym is)
+-- a value for the second of two names
+pub second_set : {V : Type 0} (first second name other : List ℕ) (front old : Option V) (value : V) → same_name name first ≡ false → same_name name second ≡ true
+    → option_or (value_if (same_name other first) front) (value_if (same_name other second) (option_or old (Some value))) ≡ filled (same_name other name) value (option_or (value_if (same_name other first) front) (value_if (same_name other second) old))
+second_set first second name other front old value apart same =
+    let is : name ≡ second = same_is name second same in
+    second_case (same_name other first) (same_name other second) front old value (λ equal. ap (λ found. same_name found first) (same_is other second equal ∙ sym is) ∙ apart)
+    ∙ ap (λ found. filled (same_name other found) value (option_or (value_if (same_name other first) front) (value_if (same_name other second) old))) (sym is)
+
+pub not_one : {V : Type 0} (test : Bool) (value : V) → test ≡ false → value_if test value ≡ None
+not_one true value apart = absurd (cc apart)
+not_one false value apart = refl
+
+pub neither : {V : Type 0} (first second : Bool) (value other : V) → first ≡ false → second ≡ false → option_or (value_if first value) (value_if second other) ≡ None
+neither true second value other apart away = absurd (cc apart)
+neither false second value other apart away = not_one second other away
 
 fill_case : {V : Type 0} (test : Bool) (old : Option (Option V)) (value : V) → (test ≡ true → old ≡ filled true value old) → old ≡ filled test value old
 fill_case true old value same = same refl

@@ -144,25 +144,34 @@ impl<'a, V: Copy + Drop> Slot<'a, V> {
             Slot::Several(several) => add_to(several, name, value),
         }
     }
+}
 
-    // Another value for a name that has one.
-    fn put(&mut self, name: &'a str, value: V) -> Result<(), AllocError>
-        requires { is_some (indexes.value_at self.old name.now) ≡ true }
-        ensures { OnOk result ((other : List ℕ) → indexes.value_at self.new other ≡ (if parts.same_name other name.now then Some value else indexes.value_at self.old other)) }
-    {
-        match self {
-            Slot::Empty => {}
-            Slot::One(_, kept) => *kept = value,
-            Slot::Two(first, kept, _, other) => if is_name(name, first) {
-                *kept = value;
-            } else {
-                *other = value;
-            },
-            Slot::Several(several) => {
-                several.insert((hash(name), name), value)?;
-            }
+// A value where there is none.
+fn set_once<V: Copy + Drop>(kept: &mut Option<V>, value: V)
+    ensures { kept.new ≡ option_or kept.old (Some value) }
+{
+    if kept.is_none() {
+        *kept = Some(value);
+    }
+}
+
+// A value for a name that stands without one among several. Whether the name stands there.
+fn fill_among<'a, V: Copy + Drop>(
+    several: &mut BTreeMap<(u64, &'a str), Option<V>>,
+    name: &'a str,
+    value: V,
+) -> Result<bool, AllocError>
+    ensures stands { IfOk result (λ stands. stands ≡ is_some (indexes.value_among several.old name.now)) }
+    ensures filled { OnOk result ((other : List ℕ) → indexes.value_among several.new other ≡ indexes.filled (parts.same_name other name.now) value (indexes.value_among several.old other)) }
+{
+    let key = (hash(name), name);
+    match several.get(&key).copied() {
+        None => Ok(false),
+        Some(Some(_)) => Ok(true),
+        Some(None) => {
+            several.insert(key, Some(value))?;
+            Ok(true)
         }
-        Ok(())
     }
 }
 
@@ -172,13 +181,27 @@ impl<'a, V: Copy + Drop> Slot<'a, Option<V>> {
         ensures stands { IfOk result (λ stands. stands ≡ is_some (indexes.value_at self.old name.now)) }
         ensures filled { OnOk result ((other : List ℕ) → indexes.value_at self.new other ≡ indexes.filled (parts.same_name other name.now) value (indexes.value_at self.old other)) }
     {
-        match self.find(name) {
-            None => Ok(false),
-            Some(Some(_)) => Ok(true),
-            Some(None) => {
-                self.put(name, Some(value))?;
+        match self {
+            Slot::Empty => Ok(false),
+            Slot::One(kept, own) => {
+                if !is_name(name, kept) {
+                    return Ok(false);
+                }
+                set_once(own, value);
                 Ok(true)
             }
+            Slot::Two(first, first_own, second, second_own) => {
+                if is_name(name, first) {
+                    set_once(first_own, value);
+                    return Ok(true);
+                }
+                if !is_name(name, second) {
+                    return Ok(false);
+                }
+                set_once(second_own, value);
+                Ok(true)
+            }
+            Slot::Several(several) => fill_among(several, name, value),
         }
     }
 }
