@@ -3,6 +3,7 @@ pub mod PackLaws
 pub mod MaskLaws
 pub mod PlaceLaws
 pub mod NameIndexLaws
+pub mod RegisterNameLaws
 pub mod ResetLaws
 pub mod SelectionLaws
 pub mod NumberLaws

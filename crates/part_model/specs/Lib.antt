@@ -2,6 +2,7 @@ pub mod Digits
 pub mod NameIndexes
 pub mod Parts
 pub mod Plans
+pub mod RegisterNames
 pub mod Demo
 pub mod Laws
 pub mod Sound

@@ -1,7 +1,7 @@
 // Names that are compared and looked for.
 ghost use Rattle.std.specs.Prelude.{◌≡◌, length};
 ghost use Rattle.part_model.specs.Parts as parts;
-ghost use Rattle.part_model.specs.Plans as plans;
+ghost use Rattle.part_model.specs.RegisterNames as registers;
 
 use base_types::Text;
 
@@ -55,9 +55,27 @@ pub fn spelled(name: &Text) -> &[u8]
     name.as_str().as_bytes()
 }
 
-// Whether the standard names a register so.
-pub fn is_standard(name: &[u8]) -> bool
-    ensures { result ≡ plans.is_listed name.now plans.standard_names }
+// Which register a name is of: one that the standard names, or another.
+#[derive(Clone, Copy)]
+pub enum RegisterName {
+    Bypass,
+    Boundary,
+    DeviceId,
+    Other,
+}
+
+// Which register a name is of.
+pub fn register_name(name: &[u8]) -> RegisterName
+    ensures { result ≡ registers.register_name name.now }
 {
-    same_name(name, b"BYPASS") || same_name(name, b"BOUNDARY") || same_name(name, b"DEVICE_ID")
+    if same_name(name, b"BYPASS") {
+        return RegisterName::Bypass;
+    }
+    if same_name(name, b"BOUNDARY") {
+        return RegisterName::Boundary;
+    }
+    if same_name(name, b"DEVICE_ID") {
+        return RegisterName::DeviceId;
+    }
+    RegisterName::Other
 }

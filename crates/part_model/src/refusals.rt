@@ -4,10 +4,11 @@ ghost use Rattle.std.specs.List.{list_any};
 ghost use Rattle.part_model.specs.NameIndexes as indexes;
 ghost use Rattle.part_model.specs.Parts as parts;
 ghost use Rattle.part_model.specs.Plans as plans;
+ghost use Rattle.part_model.specs.RegisterNames as registers;
 ghost use Rattle.part_model.specs.declared.Field.TheVariants.{RegisterAccess};
 
 use crate::name_index::NameIndex;
-use crate::names::{same_name, spelled};
+use crate::names::{RegisterName, register_name, same_name, spelled};
 use crate::patterns::wrong_length;
 use crate::plan::{Access, Opcode, PartPlan, PartRefusal, Pattern, PlanRefusal};
 use crate::register_index::{RegisterIndex, instructions, mention_register};
@@ -86,20 +87,29 @@ fn captures_01(digits: &[Digit]) -> bool
     *lowest == Digit::One && *next != Digit::One
 }
 
-// The length that a register has before an access, where this is that of the known register of its name.
-fn known_length(plan: &PartPlan, named: Option<u32>, name: &[u8]) -> Option<u32>
-    ensures { (known : List parts.NamedRegister) → named ≡ plans.length_named known name.now → result ≡ plans.known_length plan.now known name.now }
+// The length that the register of an access had before it, where this is the register of its name. Where the standard does not name it and
+// it was not known, it joins those known.
+fn length_before<'a>(
+    alloc: Global,
+    plan: &PartPlan,
+    known: &mut KnownRegisters<'a>,
+    name: RegisterName,
+    access: &'a Access,
+) -> Result<Option<u32>, AllocError>
+    requires few { length known.old.registers.items < 2 ^ 32 - 4 }
+    requires places { indexes.Knows (parts.named_of known.old.registers.items) known.old.places }
+    requires name { name ≡ registers.register_name access.now.register }
+    ensures before { IfOk result (λ before. before ≡ plans.known_length plan.now (parts.named_of known.old.registers.items) access.now.register) }
+    ensures is { OnOk result (parts.named_of known.new.registers.items ≡ plans.named_after (parts.named_of known.old.registers.items) (access.now ∷ [])) }
+    ensures few { OnOk result (length known.new.registers.items < 2 ^ 32 - 4) }
+    ensures places { OnOk result (indexes.Knows (parts.named_of known.new.registers.items) known.new.places) }
 {
-    if same_name(name, b"BYPASS") {
-        return Some(1);
+    match name {
+        RegisterName::Bypass => Ok(Some(1)),
+        RegisterName::Boundary => Ok(Some(plan.boundary)),
+        RegisterName::DeviceId => Ok(Some(32)),
+        RegisterName::Other => mention(alloc, known, access),
     }
-    if same_name(name, b"BOUNDARY") {
-        return Some(plan.boundary);
-    }
-    if same_name(name, b"DEVICE_ID") {
-        return Some(32);
-    }
-    named
 }
 
 fn any_other_than_usercode(instructions: &[Text]) -> bool
@@ -113,15 +123,17 @@ fn any_other_than_usercode(instructions: &[Text]) -> bool
     false
 }
 
-// Whether an access names DEVICE_ID by IDCODE where there is no identification.
-fn no_identification(plan: &PartPlan, access: &Access) -> bool
+// Whether an access, where this is the register of its name, names DEVICE_ID by IDCODE where there is no identification.
+fn no_identification(plan: &PartPlan, name: RegisterName, access: &Access) -> bool
+    requires { name ≡ registers.register_name access.now.register }
     ensures { result ≡ plans.no_identification plan.now.idcode access.now.register access.now.instructions }
 {
-    if plan.idcode.is_some() {
-        return false;
+    match name {
+        RegisterName::DeviceId => {
+            plan.idcode.is_none() && any_other_than_usercode(access.instructions.as_slice())
+        }
+        _ => false,
     }
-    same_name(spelled(&access.register), b"DEVICE_ID")
-        && any_other_than_usercode(access.instructions.as_slice())
 }
 
 pub fn has_opcode(opcodes: &[Opcode], name: &[u8]) -> bool
@@ -135,53 +147,51 @@ pub fn has_opcode(opcodes: &[Opcode], name: &[u8]) -> bool
     false
 }
 
-fn differs(known: Option<u32>, stated: Option<u32>) -> bool
-    ensures { result ≡ plans.differs known stated }
+// The first cause in the register of an access, where this is the register of its name, and its length before.
+fn register_refusal(
+    plan: &PartPlan,
+    name: RegisterName,
+    before: Option<u32>,
+    access: &Access,
+) -> Option<PlanRefusal>
+    requires { name ≡ registers.register_name access.now.register }
+    ensures { (known : List parts.NamedRegister) → before ≡ plans.known_length plan.now known access.now.register → plans.access_refusal plan.now known access.now ≡ plans.or_else result (plans.refuse_if (list_any (λ instruction. not (plans.is_listed instruction (map (λ opcode. opcode.name) plan.now.opcodes))) access.now.instructions) 9 RegisterAccess) }
 {
-    match (known, stated) {
-        (Some(known), Some(stated)) => known != stated,
-        _ => false,
-    }
-}
-
-// The first cause in the register of an access, where this is the length of the known register of its name.
-fn register_refusal(plan: &PartPlan, named: Option<u32>, access: &Access) -> Option<PlanRefusal>
-    ensures { (known : List parts.NamedRegister) → named ≡ plans.length_named known access.now.register → plans.access_refusal plan.now known access.now ≡ plans.or_else result (plans.refuse_if (list_any (λ instruction. not (plans.is_listed instruction (map (λ opcode. opcode.name) plan.now.opcodes))) access.now.instructions) 9 RegisterAccess) }
-{
-    let length = known_length(plan, named, spelled(&access.register));
-    if differs(length, access.length) {
+    let Some(length) = access.length else {
+        return refuse_if(
+            before.is_none() || no_identification(plan, name, access),
+            5,
+            Field::RegisterAccess,
+        );
+    };
+    if before.is_some_and(|before| before != length) {
         return refuse(4, Field::RegisterAccess);
     }
-    if length.is_none() && access.length.is_none() {
+    if no_identification(plan, name, access) {
         return refuse(5, Field::RegisterAccess);
     }
-    if no_identification(plan, access) {
-        return refuse(5, Field::RegisterAccess);
-    }
-    if access.length == Some(0) {
+    if length == 0 {
         return refuse(6, Field::RegisterAccess);
     }
-    refuse_if(
-        access.length.is_some_and(|length| length > 65536),
-        7,
-        Field::RegisterAccess,
-    )
+    refuse_if(length > 65536, 7, Field::RegisterAccess)
 }
 
-// The first cause in one access, where this is the length of the known register of its name, and these are the instructions of the opcodes.
-// Where there is none, those of the access have its register, unless they had one.
+// The first cause in one access, where this is the register of its name, and its length before, and these are the instructions of the
+// opcodes. Where there is none, those of the access have its register, unless they had one.
 fn access_refusal<'a>(
     plan: &PartPlan,
     mentioned: &mut NameIndex<'a, Option<&'a Text>>,
-    named: Option<u32>,
+    name: RegisterName,
+    before: Option<u32>,
     access: &'a Access,
 ) -> Result<Option<PlanRefusal>, AllocError>
     requires lists { indexes.Lists (map (λ opcode. opcode.name) plan.now.opcodes) mentioned.old }
-    ensures is { IfOk result (λ refusal. (known : List parts.NamedRegister) → named ≡ plans.length_named known access.now.register → refusal ≡ plans.access_refusal plan.now known access.now) }
+    requires name { name ≡ registers.register_name access.now.register }
+    ensures is { IfOk result (λ refusal. (known : List parts.NamedRegister) → before ≡ plans.known_length plan.now known access.now.register → refusal ≡ plans.access_refusal plan.now known access.now) }
     ensures lists { OnOk result (indexes.Lists (map (λ opcode. opcode.name) plan.now.opcodes) mentioned.new) }
     ensures awaits { IfOk result (λ refusal. refusal ≡ None → (rest all : List plans.AccessEntry) → indexes.Awaits (access.now ∷ rest) all mentioned.old → indexes.Awaits rest all mentioned.new) }
 {
-    if let Some(refusal) = register_refusal(plan, named, access) {
+    if let Some(refusal) = register_refusal(plan, name, before, access) {
         return Ok(Some(refusal));
     }
     let lacks = mention_register(mentioned, access)?;
@@ -227,8 +237,9 @@ pub fn register_index_of<'a>(
     }
     let mut mentioned = instructions(alloc, plan.opcodes.as_slice())?;
     for access in plan.access.as_slice() {
-        let length = mention(alloc, &mut known, access)?;
-        if let Some(refusal) = access_refusal(plan, &mut mentioned, length, access)? {
+        let name = register_name(spelled(&access.register));
+        let before = length_before(alloc, plan, &mut known, name, access)?;
+        if let Some(refusal) = access_refusal(plan, &mut mentioned, name, before, access)? {
             return Err(refusal.into());
         }
     }

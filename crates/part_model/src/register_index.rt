@@ -7,7 +7,7 @@ ghost use Rattle.part_model.specs.Parts as parts;
 ghost use Rattle.part_model.specs.Plans as plans;
 
 use crate::name_index::NameIndex;
-use crate::names::{same_name, spelled};
+use crate::names::{RegisterName, register_name, same_name, spelled};
 use crate::plan::{Access, Opcode};
 use crate::registers::{BOUNDARY, BYPASS, FIRST_NAMED, IDCODE, KnownRegisters, USERCODE};
 use base_types::Text;
@@ -105,16 +105,12 @@ fn register_named<'a>(known: &KnownRegisters<'a>, instruction: &str, name: &'a T
     ensures is { parts.numbered result ≡ plans.register_named (parts.named_of known.now.registers.items) instruction.now name.now }
     ensures within { (plans.is_listed name.now plans.standard_names || plans.is_listed name.now (plans.names_known (parts.named_of known.now.registers.items))) ≡ true → result < 4 + length known.now.registers.items }
 {
-    if same_name(spelled(name), b"BYPASS") {
-        return BYPASS;
+    match register_name(spelled(name)) {
+        RegisterName::Bypass => BYPASS,
+        RegisterName::Boundary => BOUNDARY,
+        RegisterName::DeviceId => device_id(instruction.as_bytes()),
+        RegisterName::Other => FIRST_NAMED + place_of_name(known, name.as_str()),
     }
-    if same_name(spelled(name), b"BOUNDARY") {
-        return BOUNDARY;
-    }
-    if same_name(spelled(name), b"DEVICE_ID") {
-        return device_id(instruction.as_bytes());
-    }
-    FIRST_NAMED + place_of_name(known, name.as_str())
 }
 
 // DEVICE_ID for an instruction.

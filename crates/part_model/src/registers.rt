@@ -1,13 +1,12 @@
 // The data registers of a plan, by number: 0 BYPASS, 1 BOUNDARY, 2 and 3 DEVICE_ID by IDCODE and by USERCODE, and from 4 on the named
 // registers in the order of their first mention.
-ghost use Rattle.std.specs.Prelude.{◌≡◌, ◌<◌, ◌-◌, ◌^◌, ℕ, List, [], ◌∷◌, length, OnOk, IfOk};
+ghost use Rattle.std.specs.Prelude.{◌≡◌, ◌<◌, ◌-◌, ◌^◌, ℕ, List, [], ◌∷◌, false, length, OnOk, IfOk};
 ghost use Rattle.std.specs.Option.{is_some, option_map};
 ghost use Rattle.part_model.specs.NameIndexes as indexes;
 ghost use Rattle.part_model.specs.Parts as parts;
 ghost use Rattle.part_model.specs.Plans as plans;
 
 use crate::name_index::NameIndex;
-use crate::names::is_standard;
 use crate::plan::Access;
 use base_types::Text;
 use std::alloc::{AllocError, Global};
@@ -57,8 +56,8 @@ fn is_known(length: Option<u32>) -> bool
 // So many named registers have numbers of 32 bits behind the first four, with one to spare.
 const MOST_NAMED: usize = 4_294_967_291;
 
-// The length that the register of an access had, where it was known. Where it was not, it joins those known with its length, unless the
-// standard names it. The error comes where memory is wanting, or the numbers are.
+// The length that the register of an access had, where it was known. Where it was not, it joins those known with its length. The standard
+// does not name it. The error comes where memory is wanting, or the numbers are.
 pub fn mention<'a>(
     alloc: Global,
     known: &mut KnownRegisters<'a>,
@@ -66,15 +65,13 @@ pub fn mention<'a>(
 ) -> Result<Option<u32>, AllocError>
     requires few { length known.old.registers.items < 2 ^ 32 - 4 }
     requires places { indexes.Knows (parts.named_of known.old.registers.items) known.old.places }
+    requires other { plans.is_listed access.now.register plans.standard_names ≡ false }
     ensures earlier { IfOk result (λ earlier. earlier ≡ plans.length_named (parts.named_of known.old.registers.items) access.now.register) }
     ensures is { OnOk result (parts.named_of known.new.registers.items ≡ plans.named_after (parts.named_of known.old.registers.items) (access.now ∷ [])) }
     ensures few { OnOk result (length known.new.registers.items < 2 ^ 32 - 4) }
     ensures places { OnOk result (indexes.Knows (parts.named_of known.new.registers.items) known.new.places) }
 {
     let name = access.register.as_str();
-    if is_standard(name.as_bytes()) {
-        return Ok(length_of(known.places.find(name)));
-    }
     let length = access.length.unwrap_or(0);
     let place = known.registers.len() as u32;
     let earlier = length_of(known.places.add(alloc, name, (place, length))?);

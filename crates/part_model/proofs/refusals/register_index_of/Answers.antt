@@ -13,11 +13,11 @@ loop-access-preserved c =
     let access = c.access-item.result in
     let rest = drop (c.loop-access.access-index + 1) accesses in
     let here : drop c.loop-access.access-index accesses ≡ access ∷ rest = grind (arith, common_steps) in
-    let refusal : accesses_refusal c.args.plan.now (named_of c.mention.new.known.registers.items) rest ≡ accesses_refusal c.args.plan.now [] accesses = search rules in
-    let named : named_after (named_of c.mention.new.known.registers.items) rest ≡ named_after [] accesses = search rules in
+    let refusal : accesses_refusal c.args.plan.now (named_of c.length_before.new.known.registers.items) rest ≡ accesses_refusal c.args.plan.now [] accesses = search rules in
+    let named : named_after (named_of c.length_before.new.known.registers.items) rest ≡ named_after [] accesses = search rules in
     let none : c.in_ok-refusal.field-0 ≡ None = c.in_default.is in
     let before = subst (λ (left : List AccessEntry). Awaits left accesses c.loop-access.mentioned) here c.loop-access.invariant.5 in
-    (c.in_ok-length.ensures.few, refusal, named, c.in_ok-length.ensures.places, c.in_ok-refusal.ensures.lists, c.in_ok-refusal.ensures.awaits none rest accesses before)
+    (c.in_ok-before.ensures.few, refusal, named, c.in_ok-before.ensures.places, c.in_ok-refusal.ensures.lists, c.in_ok-refusal.ensures.awaits none rest accesses before)
 
 pub returns-clause-mentions : goal.returns-clause-mentions
 returns-clause-mentions c =
