@@ -107,7 +107,7 @@ set_case true (Some kept) value = refl
 set_case false old value = refl
 
 -- a value where one name stands
-pub one_set : {V : Type 0} (kept name other : List ℕ) (old : Option V) (value : V) → same_name name kept ≡ true → value_if (same_name other kept) (option_or old (Some value)) ≡ filled (same_name other name) value (value_if (same_name other kept) old)
+one_set : {V : Type 0} (kept name other : List ℕ) (old : Option V) (value : V) → same_name name kept ≡ true → value_if (same_name other kept) (option_or old (Some value)) ≡ filled (same_name other name) value (value_if (same_name other kept) old)
 one_set kept name other old value same = set_case (same_name other kept) old value
     ∙ ap (λ found. filled (same_name other found) value (value_if (same_name other kept) old)) (sym (same_is name kept same))
 
@@ -129,20 +129,12 @@ second_case false true front (Some kept) value apart = refl
 second_case first false front old value apart = refl
 
 -- a value for the second of two names
-pub second_set : {V : Type 0} (first second name other : List ℕ) (front old : Option V) (value : V) → same_name name first ≡ false → same_name name second ≡ true
+second_set : {V : Type 0} (first second name other : List ℕ) (front old : Option V) (value : V) → same_name name first ≡ false → same_name name second ≡ true
     → option_or (value_if (same_name other first) front) (value_if (same_name other second) (option_or old (Some value))) ≡ filled (same_name other name) value (option_or (value_if (same_name other first) front) (value_if (same_name other second) old))
 second_set first second name other front old value apart same =
     let is : name ≡ second = same_is name second same in
     second_case (same_name other first) (same_name other second) front old value (λ equal. ap (λ found. same_name found first) (same_is other second equal ∙ sym is) ∙ apart)
     ∙ ap (λ found. filled (same_name other found) value (option_or (value_if (same_name other first) front) (value_if (same_name other second) old))) (sym is)
-
-pub not_one : {V : Type 0} (test : Bool) (value : V) → test ≡ false → value_if test value ≡ None
-not_one true value apart = absurd (cc apart)
-not_one false value apart = refl
-
-pub neither : {V : Type 0} (first second : Bool) (value other : V) → first ≡ false → second ≡ false → option_or (value_if first value) (value_if second other) ≡ None
-neither true second value other apart away = absurd (cc apart)
-neither false second value other apart away = not_one second other away
 
 fill_case : {V : Type 0} (test : Bool) (old : Option (Option V)) (value : V) → (test ≡ true → old ≡ filled true value old) → old ≡ filled test value old
 fill_case true old value same = same refl
@@ -153,6 +145,27 @@ pub none_filled : {V : Type 0} (old : List ℕ → Option (Option V)) (name othe
 none_filled old name other value none = fill_case (same_name other name) (old other) value (λ same.
     let is : old other ≡ None = ap old (same_is other name same) ∙ none in
     is ∙ ap (filled true value) (sym is))
+
+not_one : {V : Type 0} (test : Bool) (value : V) → test ≡ false → value_if test value ≡ None
+not_one true value apart = absurd (cc apart)
+not_one false value apart = refl
+
+neither : {V : Type 0} (first second : Bool) (value other : V) → first ≡ false → second ≡ false → option_or (value_if first value) (value_if second other) ≡ None
+neither true second value other apart away = absurd (cc apart)
+neither false second value other apart away = not_one second other away
+
+-- a value where one name stands, if it is this name
+pub one_if : {V : Type 0} (kept name other : List ℕ) (old : Option V) (value : V) (test : Bool) → test ≡ same_name name kept
+    → value_if (same_name other kept) (if test then option_or old (Some value) else old) ≡ filled (same_name other name) value (value_if (same_name other kept) old)
+one_if kept name other old value true is = one_set kept name other old value (sym is)
+one_if kept name other old value false is = none_filled (λ found. value_if (same_name found kept) old) name other value (not_one (same_name name kept) old (sym is))
+
+-- a value for the second of two names, if it is this name
+pub second_if : {V : Type 0} (first second name other : List ℕ) (front old : Option V) (value : V) (test : Bool) → same_name name first ≡ false → test ≡ same_name name second
+    → option_or (value_if (same_name other first) front) (value_if (same_name other second) (if test then option_or old (Some value) else old)) ≡ filled (same_name other name) value (option_or (value_if (same_name other first) front) (value_if (same_name other second) old))
+second_if first second name other front old value true apart is = second_set first second name other front old value apart (sym is)
+second_if first second name other front old value false apart is = none_filled (λ found. option_or (value_if (same_name found first) front) (value_if (same_name found second) old)) name other value
+    (neither (same_name name first) (same_name name second) front old apart (sym is))
 
 -- the name has a value
 pub kept_filled : {V : Type 0} (old : List ℕ → Option (Option V)) (name other : List ℕ) (value kept : V) → old name ≡ Some (Some kept) → old other ≡ filled (same_name other name) value (old other)

@@ -1,5 +1,5 @@
 -- Names with a value each.
-use Rattle.std.specs.Prelude.{ℕ, Bool, true, false, ◌+◌, ◌*◌, ◌/◌, ◌%◌, ◌^◌, List, [], ◌∷◌, ◌≡◌, length, slice_index_or, if◌then◌else◌, max}
+use Rattle.std.specs.Prelude.{ℕ, Bool, true, false, ◌+◌, ◌*◌, ◌/◌, ◌%◌, ◌^◌, List, [], ◌∷◌, ◌≡◌, length, slice_index_or, if◌then◌else◌}
 use Rattle.std.specs.Borrow.{Bor}
 use Rattle.std.specs.BTreeMap.{get_by, BTreeMap}
 use Rattle.std.specs.Cmp.Lexicographic.{slice_cmp}
@@ -20,7 +20,7 @@ hash_from hash (byte ∷ bytes) = hash_from ((hash * 1000003 % 2 ^ 64 + byte) % 
 
 -- the slot of a name among so many
 abbrev pub place : List ℕ → ℕ → ℕ
-place name count = (hash_from 0 name * 11400714819323198485 % 2 ^ 64 / 2 ^ 32) % max count 1
+place name count = (hash_from 0 name * 11400714819323198485 % 2 ^ 64 / 2 ^ 32) * count % 2 ^ 64 / 2 ^ 32
 
 -- the value of a name among several, where it has one
 abbrev pub value_among : {V : Type 0} → BTreeMap (ℕ × Bor (List ℕ)) V → List ℕ → Option V

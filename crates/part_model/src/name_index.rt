@@ -37,11 +37,13 @@ fn hash(name: &str) -> u64
     hash
 }
 
-// The slot of a name among so many. The product spreads the hashes of short names.
+// The slot of a name among so many: what the upper half of a product is of 2 ^ 32, it is of the count. The product spreads the hashes of
+// short names.
 fn place(name: &str, count: usize) -> usize
     ensures { result ≡ indexes.place name.now count }
 {
-    (hash(name).wrapping_mul(0x9e37_79b9_7f4a_7c15) >> 32) as usize % count.max(1)
+    let spread = hash(name).wrapping_mul(0x9e37_79b9_7f4a_7c15) >> 32;
+    (spread.wrapping_mul(count as u64) >> 32) as usize
 }
 
 fn is_name(name: &str, kept: &str) -> bool
@@ -113,7 +115,28 @@ impl<'a, V: Copy + Drop> Slot<'a, V> {
     }
 
     // The value of a name. Where it has none, it has this one from now on.
+    #[inline(always)]
     fn add(&mut self, alloc: Global, name: &'a str, value: V) -> Result<Option<V>, AllocError>
+        ensures earlier { IfOk result (λ earlier. earlier ≡ indexes.value_at self.old name.now) }
+        ensures added { OnOk result ((other : List ℕ) → indexes.value_at self.new other ≡ option_or (indexes.value_at self.old other) (if parts.same_name other name.now then Some value else None)) }
+    {
+        match self {
+            Slot::Empty => {
+                *self = Slot::One(name, value);
+                Ok(None)
+            }
+            _ => self.add_beside(alloc, name, value),
+        }
+    }
+
+    // The same. It is not inlined, since few slots have a name when one is added.
+    #[inline(never)]
+    fn add_beside(
+        &mut self,
+        alloc: Global,
+        name: &'a str,
+        value: V,
+    ) -> Result<Option<V>, AllocError>
         ensures earlier { IfOk result (λ earlier. earlier ≡ indexes.value_at self.old name.now) }
         ensures added { OnOk result ((other : List ℕ) → indexes.value_at self.new other ≡ option_or (indexes.value_at self.old other) (if parts.same_name other name.now then Some value else None)) }
     {
@@ -146,13 +169,15 @@ impl<'a, V: Copy + Drop> Slot<'a, V> {
     }
 }
 
-// A value where there is none.
-fn set_once<V: Copy + Drop>(kept: &mut Option<V>, value: V)
-    ensures { kept.new ≡ option_or kept.old (Some value) }
+// A value where there is none, if the test passes. The test.
+fn fill_if<V: Copy + Drop>(test: bool, kept: &mut Option<V>, value: V) -> bool
+    ensures test { result ≡ test }
+    ensures filled { kept.new ≡ (if test then option_or kept.old (Some value) else kept.old) }
 {
-    if kept.is_none() {
+    if test && kept.is_none() {
         *kept = Some(value);
     }
+    test
 }
 
 // A value for a name that stands without one among several. Whether the name stands there.
@@ -177,29 +202,31 @@ fn fill_among<'a, V: Copy + Drop>(
 
 impl<'a, V: Copy + Drop> Slot<'a, Option<V>> {
     // A value for a name that stands without one. Whether the name stands here.
+    #[inline(always)]
     fn fill(&mut self, name: &'a str, value: V) -> Result<bool, AllocError>
         ensures stands { IfOk result (λ stands. stands ≡ is_some (indexes.value_at self.old name.now)) }
         ensures filled { OnOk result ((other : List ℕ) → indexes.value_at self.new other ≡ indexes.filled (parts.same_name other name.now) value (indexes.value_at self.old other)) }
     {
         match self {
+            Slot::One(kept, own) => Ok(fill_if(is_name(name, kept), own, value)),
+            _ => self.fill_beside(name, value),
+        }
+    }
+
+    // The same. It is not inlined, since a slot seldom has several names.
+    #[inline(never)]
+    fn fill_beside(&mut self, name: &'a str, value: V) -> Result<bool, AllocError>
+        ensures stands { IfOk result (λ stands. stands ≡ is_some (indexes.value_at self.old name.now)) }
+        ensures filled { OnOk result ((other : List ℕ) → indexes.value_at self.new other ≡ indexes.filled (parts.same_name other name.now) value (indexes.value_at self.old other)) }
+    {
+        match self {
             Slot::Empty => Ok(false),
-            Slot::One(kept, own) => {
-                if !is_name(name, kept) {
-                    return Ok(false);
-                }
-                set_once(own, value);
-                Ok(true)
-            }
+            Slot::One(kept, own) => Ok(fill_if(is_name(name, kept), own, value)),
             Slot::Two(first, first_own, second, second_own) => {
                 if is_name(name, first) {
-                    set_once(first_own, value);
-                    return Ok(true);
+                    return Ok(fill_if(true, first_own, value));
                 }
-                if !is_name(name, second) {
-                    return Ok(false);
-                }
-                set_once(second_own, value);
-                Ok(true)
+                Ok(fill_if(is_name(name, second), second_own, value))
             }
             Slot::Several(several) => fill_among(several, name, value),
         }

@@ -6,6 +6,7 @@ ghost use Rattle.part_model.specs.RegisterNames as registers;
 use base_types::Text;
 
 // Equal bytes.
+#[inline(always)]
 pub fn same_name(left: &[u8], right: &[u8]) -> bool
     ensures { result ≡ parts.same_name left.now right.now }
 {
@@ -65,6 +66,7 @@ pub enum RegisterName {
 }
 
 // Which register a name is of.
+#[inline(always)]
 pub fn register_name(name: &[u8]) -> RegisterName
     ensures { result ≡ registers.register_name name.now }
 {

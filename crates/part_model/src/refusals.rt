@@ -112,6 +112,7 @@ fn length_before<'a>(
     }
 }
 
+#[inline(never)]
 fn any_other_than_usercode(instructions: &[Text]) -> bool
     ensures { result ≡ list_any (λ instruction. not (parts.same_name instruction (codes "USERCODE"))) instructions.now }
 {
@@ -216,6 +217,7 @@ pub fn code_refusal(plan: &PartPlan) -> Option<PlanRefusal>
 }
 
 // What the accesses name, or the first cause in them.
+#[inline(never)]
 pub fn register_index_of<'a>(
     alloc: Global,
     plan: &'a PartPlan,

@@ -3,7 +3,7 @@ use Rattle.part_model.specs.declared.name_index.Slot.TheVariants.{One, Two}
 use Rattle.part_model.specs.NameIndexes.{value_at}
 use Rattle.part_model.specs.Parts.{same_name}
 use Rattle.part_model.proofs.NameIndexLaws.{known_stays, one_there, first_there, second_there}
-use Rattle.part_model.proofs.name_index.Slot.add.Goals as goal
+use Rattle.part_model.proofs.name_index.Slot.add_beside.Goals as goal
 
 pub returns-then-is_name-clause-added : goal.returns-then-is_name-clause-added
 returns-then-is_name-clause-added g c = λ other. rw c.in-One.is (known_stays (value_at (One c.in-One.kept c.in-One.first)) c.args.name.now other c.args.value (one_there (same_name c.args.name.now c.in-One.kept.now) c.in-One.first (sym c.is_name.ensures ∙ c.if-is_name.true)))
