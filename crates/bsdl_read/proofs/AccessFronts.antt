@@ -1,24 +1,55 @@
 -- The content of REGISTER_ACCESS: registers and names that are read at once.
-use Rattle.std.proofs.Common.{◌≡◌, ℕ, ◌-◌, ◌<◌, ◌==◌, nat_lt, ◌&&◌, not, Bool, true, false, length, List, [], ◌∷◌, ◌++◌, map, refl, sym, ap, subst, ◌∙◌, arith}
+use Rattle.std.proofs.Common.{◌≡◌, ℕ, suc, ◌+◌, ◌-◌, ◌<◌, ◌==◌, nat_lt, ◌&&◌, not, Bool, true, false, length, List, [], ◌∷◌, ◌++◌, take, drop, map, refl, sym, ap, subst, ◌∙◌, arith}
 use Rattle.std.specs.Prelude.{codes}
 use Rattle.std.specs.declared.option.Option.{Option}
 use Rattle.std.specs.declared.option.Option.TheVariants.{Some}
-use Rattle.std.specs.List.{list_all}
-use Rattle.std.proofs.lemmas.Bool.{and_from, lt-ltb}
-use Rattle.bsdl_lex.specs.Tokens.{within, is_digit}
+use Rattle.std.specs.List.{list_all, prefix_len}
+use Rattle.std.proofs.lemmas.Bool.{and_from, lt-ltb, ne_eqb}
+use Rattle.std.proofs.lemmas.List.{take-append-drop}
+use Rattle.std.proofs.lemmas.List.Sums.{prefix_len-le-length}
+use Rattle.bsdl_lex.specs.Tokens.{within, is_letter, is_digit, in_word}
 use Rattle.bsdl_lex.proofs.Complete.{within_parts}
 use Rattle.bsdl_read.specs.Words.{capital, same_word}
 use Rattle.bsdl_read.specs.Contents.{is_short, number_from, through}
 use Rattle.bsdl_read.specs.ContentGrammar.{are_spaces, Padded, written_padded, IsPadded, is_name, name_of, written_length, is_instruction}
-use Rattle.bsdl_read.specs.Accesses.{Entries, next_byte, with_entries, at_name, with_opened, with_named, HasLength, OpensWith, NamesOne, sign_behind}
+use Rattle.bsdl_read.specs.Accesses.{Entries, next_byte, at_stage, with_entries, at_name, with_opened, with_named, HasWord, HasLength, OpensWith, NamesOne, sign_behind}
 use Rattle.bsdl_read.specs.declared.accesses.AccessStage.TheVariants as stage
+use Rattle.bsdl_read.proofs.Spans.{passes-front}
 use Rattle.bsdl_read.proofs.AccessParts.{with_parts, opened_goes, name_goes}
 use Rattle.bsdl_read.proofs.AccessWords.{fine_result, same_ok}
 
 -- ---- what the front is
 
-padded : List ℕ → List ℕ → List ℕ → Padded
-padded before inside behind = record { before = before; inside = inside; behind = behind }
+letters_then : (first : ℕ) (more : List ℕ) → is_letter first ≡ true → HasWord (first ∷ more) (prefix_len in_word (first ∷ more))
+letters_then first more letter =
+    let is : in_word first ≡ true = rw letter refl in
+    let count : 1 + prefix_len in_word more ≡ suc (prefix_len in_word more) = omega arith in
+    rw (is, count) record {
+      within = omega (arith, prefix_len-le-length in_word more);
+      some = omega arith;
+      letters = and_from (in_word first) (list_all in_word (take (prefix_len in_word more) more)) is (passes-front in_word more);
+      has_name = and_from (is_letter first) (list_all in_word (take (prefix_len in_word more) more)) letter (passes-front in_word more);
+    }
+
+pub has_word : (bytes : List ℕ) (first : ℕ) (more : List ℕ) (count : ℕ) → bytes ≡ first ∷ more → is_letter first ≡ true → count ≡ prefix_len in_word bytes → HasWord bytes count
+has_word bytes first more count are letter is = rw is (rw are (letters_then first more letter))
+
+pub front_letters : (bytes : List ℕ) (count : ℕ) → bytes ≡ take count bytes ++ drop count bytes
+front_letters bytes count = sym (take-append-drop count bytes)
+
+-- words of other lengths are other words
+other_word : (word other : List ℕ) → (length word ≡ length other → ⊥) → same_word word other ≡ false
+other_word [] [] differ = absurd (differ refl)
+other_word [] (y ∷ other) differ = refl
+other_word (x ∷ word) [] differ = refl
+other_word (x ∷ word) (y ∷ other) differ = by (capital x == capital y) (other_word word other (λ same. differ (ap suc same)))
+  where
+    by : (first : Bool) → same_word word other ≡ false → (first && same_word word other) ≡ false
+    by true rest = rest
+    by false rest = refl
+
+pub other_length : (word other : List ℕ) (count : ℕ) → length other ≡ count → (length word ≡ count → ⊥) → (length word == count) ≡ same_word word other
+other_length word other count is differ = ne_eqb (length word) count differ ∙ sym (other_word word other (λ same. differ (same ∙ is)))
 
 short_from : (digits : List ℕ) → (length digits == 0) ≡ false → length digits < 10 → list_all is_digit digits ≡ true → is_short digits ≡ true
 short_from [] some few all = absurd (cc some)
@@ -111,14 +142,36 @@ name_ends e after bytes word is_last behind due leads names =
     ∙ ap (λ (x : Entries). through next_byte x bytes) (sym due)
 
 -- a register with its first instruction
-pub first_name_ends : (e opened after : Entries) (bytes word name : List ℕ) (length : Option ℕ) (is_last last : Bool) (behind : List ℕ) → e ≡ with_entries e.done → fine_result (with_opened e word length) ≡ fine_result opened
-    → fine_result (with_named opened name last) ≡ fine_result after → is_last ≡ last → NamesOne bytes name is_last behind
-    → through next_byte after behind ≡ through next_byte (with_opened e word length) bytes
-first_name_ends e opened after bytes word name length is_last last behind between opens leads same names =
-    let is : with_opened e word length ≡ opened = same_ok _ _ opens in
+pub entry_begins : (e : Entries) (bytes word name : List ℕ) (length : Option ℕ) (names : List ℕ) (is_last : Bool) (behind : List ℕ) → e ≡ with_entries e.done → OpensWith bytes word length names → NamesOne names name is_last behind
+    → through next_byte (with_named (with_opened e word length) name is_last) behind ≡ through next_byte e bytes
+entry_begins e bytes word name length names is_last behind between opens ends =
     let due : with_opened e word length ≡ at_name (with_opened e word length) = ap (λ (x : Entries). with_opened x word length) between ∙ ap (λ (x : Entries). at_name (with_opened x word length)) (sym between) in
-    name_ends (with_opened e word length) after bytes name last behind due (ap (λ (x : Entries). fine_result (with_named x name last)) is ∙ leads) (subst (λ (sign : Bool). NamesOne bytes name sign behind) same names)
+    name_ends (with_opened e word length) (with_named (with_opened e word length) name is_last) names name is_last behind due refl ends
+    ∙ register_opens e (with_opened e word length) bytes word length names between refl opens
 
-pub register_read : (e after : Entries) (bytes word : List ℕ) (length : Option ℕ) (names behind : List ℕ) → e ≡ with_entries e.done → through next_byte after behind ≡ through next_byte (with_opened e word length) names → OpensWith bytes word length names
-    → through next_byte after behind ≡ through next_byte e bytes
-register_read e after bytes word length names behind between goes opens = goes ∙ register_opens e (with_opened e word length) bytes word length names between refl opens
+pub entry_opens : (e after : Entries) (bytes word name : List ℕ) (length : Option ℕ) (names : List ℕ) (is_last last : Bool) (behind : List ℕ) → e ≡ with_entries e.done → OpensWith bytes word length names
+    → fine_result (with_named (with_opened e word length) name last) ≡ fine_result after → is_last ≡ last → NamesOne names name is_last behind → through next_byte after behind ≡ through next_byte e bytes
+entry_opens e after bytes word name length names is_last last behind between opens leads same ends =
+    ap (λ (x : Entries). through next_byte x behind) (sym (same_ok _ _ leads)) ∙ entry_begins e bytes word name length names last behind between opens (subst (λ (sign : Bool). NamesOne names name sign behind) same ends)
+
+-- a whole entry with one instruction, and no `,` behind it
+pub entry_closes : (e after : Entries) (bytes word name : List ℕ) (length : Option ℕ) (names : List ℕ) (is_last : Bool) (behind : List ℕ) → e ≡ with_entries e.done → OpensWith bytes word length names
+    → fine_result (at_stage (with_named (with_opened e word length) name true) stage.Entry) ≡ fine_result after → is_last ≡ true → NamesOne names name is_last behind → through next_byte (at_stage after stage.Closed) behind ≡ through next_byte e bytes
+entry_closes e after bytes word name length names is_last behind between opens leads same ends =
+    entry_opens e (at_stage after stage.Closed) bytes word name length names is_last true behind between opens (ap (λ (x : Entries). fine_result (at_stage x stage.Closed)) (same_ok _ _ leads)) same ends
+
+-- and with a `,` behind it
+pub entry_joins : (e after : Entries) (bytes word name : List ℕ) (length : Option ℕ) (names : List ℕ) (is_last : Bool) (behind rest : List ℕ) → e ≡ with_entries e.done → OpensWith bytes word length names
+    → fine_result (at_stage (with_named (with_opened e word length) name true) stage.Entry) ≡ fine_result after → is_last ≡ true → NamesOne names name is_last behind → behind ≡ 44 ∷ rest → through next_byte after rest ≡ through next_byte e bytes
+entry_joins e after bytes word name length names is_last behind rest between opens leads same ends joins =
+    ap (λ (x : Entries). through next_byte x rest) (sym (same_ok _ _ leads))
+    ∙ ap (through next_byte (with_named (with_opened e word length) name true)) (sym joins)
+    ∙ entry_opens e (with_named (with_opened e word length) name true) bytes word name length names is_last true behind between opens refl same ends
+
+-- and nothing of the next entry was read
+pub still_between : (e after : Entries) (word name : List ℕ) (length : Option ℕ) → e ≡ with_entries e.done → fine_result (at_stage (with_named (with_opened e word length) name true) stage.Entry) ≡ fine_result after → after ≡ with_entries after.done
+still_between e after word name length between leads =
+    let is : at_stage (with_named (with_opened e word length) name true) stage.Entry ≡ after = same_ok _ _ leads in
+    let begins : at_stage (with_named (with_opened e word length) name true) stage.Entry ≡ at_stage (with_named (with_opened (with_entries e.done) word length) name true) stage.Entry =
+    ap (λ (x : Entries). at_stage (with_named (with_opened x word length) name true) stage.Entry) between in
+    sym is ∙ begins ∙ ap (λ (x : Entries). with_entries x.done) (sym begins ∙ is)

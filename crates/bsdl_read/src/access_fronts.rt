@@ -1,27 +1,25 @@
 // What stands whole at the front of a text of REGISTER_ACCESS is read at once, and the rest byte by byte.
-ghost use Rattle.std.specs.Prelude.{◌≡◌, ℕ, ◌<◌, ◌≤◌, ◌++◌, [], true, length, IsTrue, IfOk, IfErr, IfSome, OnOk, Result, Ok};
-ghost use Rattle.std.specs.List.{list_all};
-ghost use Rattle.bsdl_lex.specs.Tokens as t;
+ghost use Rattle.std.specs.Prelude.{◌≡◌, ℕ, ◌<◌, ◌≤◌, [], true, false, length, take, codes, IsTrue, IfOk, IfErr, IfSome, Result, Ok};
 ghost use Rattle.bsdl_lex.specs.Tokens.{SpansRise};
+ghost use Rattle.bsdl_read.specs.Words as w;
 ghost use Rattle.bsdl_read.specs.Contents as c;
 ghost use Rattle.bsdl_read.specs.Accesses as a;
-ghost use Rattle.bsdl_read.specs.ContentGrammar.{is_name};
-ghost use Rattle.bsdl_read.specs.declared.accesses.AccessStage.TheVariants.{Closed, Entry};
+ghost use Rattle.bsdl_read.specs.declared.accesses.AccessStage.TheVariants.{Entry};
 
 use crate::accesses::{AccessReading, AccessStage};
 use crate::contents::{
-    ContentFault, behind_sign, inside, is_space, name_of, number_of, split_run, split_word,
+    ContentFault, behind_sign, front_name_of, inside, is_space, number_of, split_run,
 };
 use crate::words::same_word;
-use bsdl_lex::{Token, is_digit, is_letter};
+use bsdl_lex::{Token, is_digit, is_letter, word_length};
 use part_model::{Access, Names};
 use std::alloc::Global;
 
-// A word, and the bytes behind it.
+// So many letters at the front of these bytes.
 #[derive(Clone, Copy)]
 struct FrontWord<'a> {
-    word: &'a [u8],
-    behind: &'a [u8],
+    bytes: &'a [u8],
+    count: usize,
 }
 
 // A length in brackets, or none, and the bytes behind it.
@@ -34,7 +32,7 @@ struct FrontLength<'a> {
 // A register with or without its length, and the bytes behind the `(` of its names.
 #[derive(Clone, Copy)]
 struct FrontRegister<'a> {
-    word: &'a [u8],
+    word: FrontWord<'a>,
     length: Option<u32>,
     behind: &'a [u8],
 }
@@ -42,28 +40,26 @@ struct FrontRegister<'a> {
 // A name, whether its list ends with it, and the bytes behind the `)` or the `,`.
 #[derive(Clone, Copy)]
 struct FrontName<'a> {
-    word: &'a [u8],
+    word: FrontWord<'a>,
     is_last: bool,
     behind: &'a [u8],
 }
 
-// The word at the front, as far as it stands there.
-fn front_word(bytes: &[u8]) -> Option<FrontWord<'_>>
-    ensures is { IfSome result (λ front. bytes.now ≡ front.word.now ++ front.behind.now) }
-    ensures name { IfSome result (λ front. is_name front.word.now ≡ true) }
-    ensures letters { IfSome result (λ front. list_all t.in_word front.word.now ≡ true) }
-    ensures less { IfSome result (λ front. length front.behind.now < length bytes.now) }
+// How many letters the word at the front has, as far as it stands there.
+#[inline(always)]
+fn front_word(bytes: &[u8]) -> Option<usize>
+    ensures { IfSome result (λ count. a.HasWord bytes.now count) }
 {
-    let (word, behind) = split_word(bytes);
-    let (first, _) = word.split_first()?;
+    let (first, _) = bytes.split_first()?;
     if is_letter(*first) {
-        Some(FrontWord { word, behind })
+        Some(word_length(bytes))
     } else {
         None
     }
 }
 
 // The length at the front, where there is one and it stands whole.
+#[inline(always)]
 fn front_length(bytes: &[u8]) -> Option<FrontLength<'_>>
     ensures is { IfSome result (λ front. a.HasLength bytes.now front.length front.behind.now) }
     ensures less { IfSome result (λ front. length front.behind.now ≤ length bytes.now) }
@@ -88,24 +84,29 @@ fn front_length(bytes: &[u8]) -> Option<FrontLength<'_>>
 }
 
 // The register at the front, where it stands whole.
+#[inline(always)]
 fn front_register(bytes: &[u8]) -> Option<FrontRegister<'_>>
-    ensures is { IfSome result (λ front. a.OpensWith bytes.now front.word.now front.length front.behind.now) }
-    ensures letters { IfSome result (λ front. list_all t.in_word front.word.now ≡ true) }
+    ensures is { IfSome result (λ front. a.OpensWith bytes.now (take front.word.count front.word.bytes.now) front.length front.behind.now) }
+    ensures word { IfSome result (λ front. a.HasWord front.word.bytes.now front.word.count) }
     ensures less { IfSome result (λ front. length front.behind.now < length bytes.now) }
 {
     let (_, padded) = split_run(bytes, is_space);
-    let FrontWord { word, behind } = front_word(padded)?;
-    let (_, list) = split_run(behind, is_space);
+    let count = front_word(padded)?;
+    let (_, list) = split_run(padded.split_at(count).1, is_space);
     let FrontLength { length, behind } = front_length(list)?;
     let behind = behind_sign(behind, b'(')?;
     Some(FrontRegister {
-        word,
+        word: FrontWord {
+            bytes: padded,
+            count,
+        },
         length,
         behind,
     })
 }
 
 // Whether a list ends with the sign that stands behind a name.
+#[inline(always)]
 fn ends_list(sign: u8) -> Option<bool>
     ensures { IfSome result (λ is_last. sign ≡ a.sign_behind is_last) }
 {
@@ -116,22 +117,35 @@ fn ends_list(sign: u8) -> Option<bool>
     }
 }
 
+// Whether a name is that of the instruction RUNBIST.
+#[inline(always)]
+fn is_runbist(name: &[u8]) -> bool
+    ensures { result ≡ w.same_word name.now (codes "RUNBIST") }
+{
+    name.len() == 7 && same_word(name, b"RUNBIST")
+}
+
 // The name at the front and the sign behind it, where both stand there and the name is not RUNBIST.
+#[inline(always)]
 fn front_name(bytes: &[u8]) -> Option<FrontName<'_>>
-    ensures is { IfSome result (λ front. a.NamesOne bytes.now front.word.now front.is_last front.behind.now) }
-    ensures letters { IfSome result (λ front. list_all t.in_word front.word.now ≡ true) }
+    ensures is { IfSome result (λ front. a.NamesOne bytes.now (take front.word.count front.word.bytes.now) front.is_last front.behind.now) }
+    ensures word { IfSome result (λ front. a.HasWord front.word.bytes.now front.word.count) }
     ensures less { IfSome result (λ front. length front.behind.now < length bytes.now) }
 {
     let (_, padded) = split_run(bytes, is_space);
-    let FrontWord { word, behind } = front_word(padded)?;
-    let (_, end) = split_run(behind, is_space);
+    let count = front_word(padded)?;
+    let (letters, blanks) = padded.split_at(count);
+    let (_, end) = split_run(blanks, is_space);
     let (sign, behind) = end.split_first()?;
     let is_last = ends_list(*sign)?;
-    if same_word(word, b"RUNBIST") {
+    if is_runbist(letters) {
         return None;
     }
     Some(FrontName {
-        word,
+        word: FrontWord {
+            bytes: padded,
+            count,
+        },
         is_last,
         behind,
     })
@@ -139,15 +153,16 @@ fn front_name(bytes: &[u8]) -> Option<FrontName<'_>>
 
 impl AccessReading {
     // Whether nothing of the next entry was read.
+    #[inline(always)]
     fn is_between(&self) -> bool
         ensures { IsTrue result → a.view self.now ≡ a.with_entries self.now.done.items }
     {
         matches!(self.stage, AccessStage::Entry)
-            && self.register.is_empty()
             && self.length.is_none()
             && self.number.is_empty()
-            && self.name.is_empty()
             && self.instructions.is_empty()
+            && self.register.is_empty()
+            && self.name.is_empty()
     }
 
     // Whether an instruction is due, and nothing of its name was read.
@@ -168,97 +183,93 @@ impl AccessReading {
     }
 
     // A register whose names are due.
-    fn opened(
-        &mut self,
-        alloc: Global,
-        word: &[u8],
-        length: Option<u32>,
-    ) -> Result<(), ContentFault>
-        requires { list_all t.in_word word.now ≡ true }
-        ensures { c.Steps (a.view self.new) result (Ok (a.with_opened (a.view self.old) word.now length)) }
+    fn opened(&mut self, alloc: Global, front: FrontRegister<'_>) -> Result<(), ContentFault>
+        requires { a.HasWord front.word.bytes.now front.word.count }
+        ensures { c.Steps (a.view self.new) result (Ok (a.with_opened (a.view self.old) (take front.entry.word.count front.entry.word.bytes.now) front.entry.length)) }
     {
         self.stage = AccessStage::Instruction;
-        self.register = name_of(alloc, word)?;
-        self.length = length;
+        self.register = front_name_of(alloc, front.word.bytes, front.word.count)?;
+        self.length = front.length;
         Ok(())
     }
 
-    // A whole entry with one instruction.
+    // A whole entry with one instruction. Another may follow at once.
+    #[inline(always)]
     fn entered(
         &mut self,
         alloc: Global,
-        word: &[u8],
-        length: Option<u32>,
-        name: &[u8],
+        front: FrontRegister<'_>,
+        name: FrontWord<'_>,
     ) -> Result<(), ContentFault>
         requires between { a.view self.old ≡ a.with_entries self.old.done.items }
-        requires register { list_all t.in_word word.now ≡ true }
-        requires name { list_all t.in_word name.now ≡ true }
-        ensures is { c.Steps (a.view self.new) result (Ok (a.with_named (a.with_opened (a.view self.old) word.now length) name.now true)) }
-        ensures stage { OnOk result (self.new.stage ≡ Closed) }
+        requires register { a.HasWord front.word.bytes.now front.word.count }
+        requires name { a.HasWord name.bytes.now name.count }
+        ensures { c.Steps (a.view self.new) result (Ok (a.at_stage (a.with_named (a.with_opened (a.view self.old) (take front.entry.word.count front.entry.word.bytes.now) front.entry.length) (take name.entry.count name.entry.bytes.now) true) Entry)) }
     {
-        let register = name_of(alloc, word)?;
-        let instructions = Names::one(alloc, name_of(alloc, name)?);
-        self.stage = AccessStage::Closed;
+        let register = front_name_of(alloc, front.word.bytes, front.word.count)?;
+        let instructions = Names::one(alloc, front_name_of(alloc, name.bytes, name.count)?);
         self.done.push(Access {
             register,
-            length,
+            length: front.length,
             instructions,
         })?;
         Ok(())
     }
 
-    // Behind a whole entry, the bytes behind the `,` at the front, where it stands there.
-    fn behind_entry<'a>(&mut self, bytes: &'a [u8]) -> &'a [u8]
-        requires { self.old.stage ≡ Closed }
-        ensures goes { c.through a.next_byte (a.view self.new) result.now ≡ c.through a.next_byte (a.view self.old) bytes.now }
-        ensures less { length result.now ≤ length bytes.now }
-    {
-        match behind_sign(bytes, b',') {
-            Some(behind) => {
-                self.stage = AccessStage::Entry;
-                behind
-            }
-            None => bytes,
-        }
-    }
-
-    // A register that stands whole at the front, and its first instruction where that does too. Answers the bytes behind what was read.
-    fn begun<'a>(
+    // A register that stands whole at the front, and its first instruction, which is not its last.
+    fn begun(
         &mut self,
         alloc: Global,
-        front: FrontRegister<'a>,
-    ) -> Result<&'a [u8], ContentFault>
-        requires between { a.view self.old ≡ a.with_entries self.old.done.items }
-        requires letters { list_all t.in_word front.word.now ≡ true }
-        ensures goes { IfOk result (λ behind. c.through a.next_byte (a.view self.new) behind.now ≡ c.through a.next_byte (a.with_opened (a.view self.old) front.entry.word.now front.entry.length) front.entry.behind.now) }
-        ensures less { IfOk result (λ behind. length behind.now ≤ length front.entry.behind.now) }
+        front: FrontRegister<'_>,
+        name: FrontWord<'_>,
+    ) -> Result<(), ContentFault>
+        requires register { a.HasWord front.word.bytes.now front.word.count }
+        requires name { a.HasWord name.bytes.now name.count }
+        ensures { c.Steps (a.view self.new) result (Ok (a.with_named (a.with_opened (a.view self.old) (take front.entry.word.count front.entry.word.bytes.now) front.entry.length) (take name.entry.count name.entry.bytes.now) false)) }
+    {
+        self.opened(alloc, front)?;
+        self.named(alloc, name, false)
+    }
+
+    // Entries that stand whole at the front with one instruction each, and what stands whole of the entry behind them. Answers the
+    // bytes behind what was read.
+    fn entries<'a>(&mut self, alloc: Global, bytes: &'a [u8]) -> Result<&'a [u8], ContentFault>
+        requires { a.view self.old ≡ a.with_entries self.old.done.items }
+        ensures goes { IfOk result (λ behind. c.through a.next_byte (a.view self.new) behind.now ≡ c.through a.next_byte (a.view self.old) bytes.now) }
+        ensures less { IfOk result (λ behind. length behind.now ≤ length bytes.now) }
         ensures fault { (read : Result a.Entries ℕ) → IfErr result (λ fault. c.Refuses fault read) }
     {
-        let FrontRegister {
-            word,
-            length,
-            behind,
-        } = front;
-        if let Some(name) = front_name(behind) {
-            if name.is_last {
-                self.entered(alloc, word, length, name.word)?;
-                return Ok(self.behind_entry(name.behind));
+        let mut rest = bytes;
+        while let Some(front) = front_register(rest) {
+            let Some(name) = front_name(front.behind) else {
+                self.opened(alloc, front)?;
+                return Ok(front.behind);
+            };
+            if !name.is_last {
+                self.begun(alloc, front, name.word)?;
+                return Ok(name.behind);
             }
-            self.opened(alloc, word, length)?;
-            self.named(alloc, name.word, false)?;
-            return Ok(name.behind);
+            self.entered(alloc, front, name.word)?;
+            let Some(behind) = behind_sign(name.behind, b',') else {
+                self.stage = AccessStage::Closed;
+                return Ok(name.behind);
+            };
+            rest = behind;
         }
-        self.opened(alloc, word, length)?;
-        Ok(behind)
+        Ok(rest)
     }
 
     // A whole name, which may be the last of its entry.
-    fn named(&mut self, alloc: Global, word: &[u8], is_last: bool) -> Result<(), ContentFault>
-        requires { list_all t.in_word word.now ≡ true }
-        ensures { c.Steps (a.view self.new) result (Ok (a.with_named (a.view self.old) word.now is_last)) }
+    fn named(
+        &mut self,
+        alloc: Global,
+        word: FrontWord<'_>,
+        is_last: bool,
+    ) -> Result<(), ContentFault>
+        requires { a.HasWord word.bytes.now word.count }
+        ensures { c.Steps (a.view self.new) result (Ok (a.with_named (a.view self.old) (take word.entry.count word.entry.bytes.now) is_last)) }
     {
-        self.name = name_of(alloc, word)?;
+        self.name = front_name_of(alloc, word.bytes, word.count)?;
         if is_last {
             return self.entry(alloc);
         }
@@ -266,22 +277,27 @@ impl AccessReading {
     }
 
     // All letters of a register that stand in one text.
-    fn register_word(&mut self, alloc: Global, word: &[u8]) -> Result<(), ContentFault>
-        requires { list_all t.in_word word.now ≡ true }
-        ensures { c.Steps (a.view self.new) result (Ok (a.with_register_word (a.view self.old) word.now)) }
+    fn register_word(
+        &mut self,
+        alloc: Global,
+        bytes: &[u8],
+        count: usize,
+    ) -> Result<(), ContentFault>
+        requires { a.HasWord bytes.now count }
+        ensures { c.Steps (a.view self.new) result (Ok (a.with_register_word (a.view self.old) (take count bytes.now))) }
     {
         self.stage = AccessStage::Register;
-        self.register = name_of(alloc, word)?;
+        self.register = front_name_of(alloc, bytes, count)?;
         Ok(())
     }
 
     // All letters of a name that stand in one text.
-    fn name_word(&mut self, alloc: Global, word: &[u8]) -> Result<(), ContentFault>
-        requires { list_all t.in_word word.now ≡ true }
-        ensures { c.Steps (a.view self.new) result (Ok (a.with_name_word (a.view self.old) word.now)) }
+    fn name_word(&mut self, alloc: Global, bytes: &[u8], count: usize) -> Result<(), ContentFault>
+        requires { a.HasWord bytes.now count }
+        ensures { c.Steps (a.view self.new) result (Ok (a.with_name_word (a.view self.old) (take count bytes.now))) }
     {
         self.stage = AccessStage::Name;
-        self.name = name_of(alloc, word)?;
+        self.name = front_name_of(alloc, bytes, count)?;
         Ok(())
     }
 
@@ -293,15 +309,15 @@ impl AccessReading {
         ensures fault { IfErr result (λ fault. c.Refuses fault (c.through a.next_byte (a.view self.old) bytes.now)) }
     {
         if self.awaits_register() {
-            if let Some(front) = front_word(bytes) {
-                self.register_word(alloc, front.word)?;
-                return Ok(front.behind);
+            if let Some(count) = front_word(bytes) {
+                self.register_word(alloc, bytes, count)?;
+                return Ok(bytes.split_at(count).1);
             }
         }
         if self.awaits_name() {
-            if let Some(front) = front_word(bytes) {
-                self.name_word(alloc, front.word)?;
-                return Ok(front.behind);
+            if let Some(count) = front_word(bytes) {
+                self.name_word(alloc, bytes, count)?;
+                return Ok(bytes.split_at(count).1);
             }
         }
         let Some((byte, behind)) = bytes.split_first() else {
@@ -319,10 +335,11 @@ impl AccessReading {
         ensures fault { IfErr result (λ fault. c.Refuses fault (c.through a.next_byte (a.view self.old) bytes.now)) }
     {
         if self.is_between() {
-            if let Some(front) = front_register(bytes) {
-                let behind = self.begun(alloc, front)?;
-                return Ok(behind);
+            let rest = self.entries(alloc, bytes)?;
+            if rest.len() < bytes.len() {
+                return Ok(rest);
             }
+            return self.next_part(alloc, rest);
         }
         if self.awaits_name() {
             if let Some(front) = front_name(bytes) {

@@ -1,5 +1,5 @@
 // What stands between the quotes of a VALUE, and numbers.
-ghost use Rattle.std.specs.Prelude.{ℕ, Bool, ◌≡◌, ◌==◌, ◌<◌, ◌≤◌, ◌-◌, ◌++◌, ◌∷◌, ◌^◌, [], true, false, length, map, reverse, if◌then◌else◌, OnOk, IfOk, IfSome};
+ghost use Rattle.std.specs.Prelude.{ℕ, Bool, ◌≡◌, ◌==◌, ◌<◌, ◌≤◌, ◌-◌, ◌++◌, ◌∷◌, ◌^◌, [], true, false, length, take, map, reverse, if◌then◌else◌, OnOk, IfOk, IfSome};
 ghost use Rattle.std.specs.List.{list_all};
 ghost use Rattle.std.specs.Option.{is_some};
 ghost use Rattle.bsdl_lex.specs.Tokens as t;
@@ -36,6 +36,7 @@ impl From<AllocError> for ContentFault {
     }
 }
 
+#[inline(always)]
 pub fn is_space(byte: u8) -> bool
     ensures { result ≡ c.is_space byte }
 {
@@ -78,6 +79,7 @@ pub fn add_letter(alloc: Global, name: &mut Text, byte: u8) -> Result<(), AllocE
 }
 
 // The bytes at the front that pass a test, and those behind them.
+#[inline(always)]
 pub fn split_run<F: Fn(u8) -> bool>(bytes: &[u8], passes: F) -> (&[u8], &[u8])
     requires { F.IsAlwaysCallable passes }
     ensures whole { bytes.now ≡ result.0.now ++ result.1.now }
@@ -92,6 +94,7 @@ pub fn split_run<F: Fn(u8) -> bool>(bytes: &[u8], passes: F) -> (&[u8], &[u8])
 }
 
 // The bytes at the front that may stand in a word, and those behind them.
+#[inline(always)]
 pub fn split_word(bytes: &[u8]) -> (&[u8], &[u8])
     ensures whole { bytes.now ≡ result.0.now ++ result.1.now }
     ensures letters { list_all t.in_word result.0.now ≡ true }
@@ -100,6 +103,7 @@ pub fn split_word(bytes: &[u8]) -> (&[u8], &[u8])
 }
 
 // The bytes behind a sign, where it stands at the front.
+#[inline(always)]
 pub fn behind_sign(bytes: &[u8], sign: u8) -> Option<&[u8]>
     ensures behind { IfSome result (λ behind. bytes.now ≡ sign ∷ behind.now) }
     ensures there { is_some result ≡ t.starts (λ byte. byte == sign) bytes.now }
@@ -108,6 +112,16 @@ pub fn behind_sign(bytes: &[u8], sign: u8) -> Option<&[u8]>
         Some((byte, behind)) if *byte == sign => Some(behind),
         _ => None,
     }
+}
+
+// The first letters of these bytes, so many of them, in capitals.
+#[inline(always)]
+pub fn front_name_of(alloc: Global, bytes: &[u8], count: usize) -> Result<Text, AllocError>
+    requires within { count ≤ length bytes.now }
+    requires letters { list_all t.in_word (take count bytes.now) ≡ true }
+    ensures { IfOk result (λ name. name ≡ map w.capital (take count bytes.now)) }
+{
+    Text::front_capitals(alloc, bytes, count)
 }
 
 // The letters of a name in capitals.
@@ -161,6 +175,7 @@ fn all_digits(bytes: &[u8]) -> bool
     true
 }
 
+#[inline(always)]
 fn digit_value(byte: u8) -> u32
     requires { t.is_digit byte ≡ true }
     ensures is { result ≡ byte - 48 }
@@ -170,6 +185,7 @@ fn digit_value(byte: u8) -> u32
 }
 
 // The number of so many digits, the first the highest.
+#[inline(always)]
 pub fn number_of(bytes: &[u8]) -> u32
     requires short { length bytes.now < 10 }
     requires digits { list_all t.is_digit bytes.now ≡ true }
