@@ -1,41 +1,22 @@
 -- The content of REGISTER_ACCESS: registers and names that are read at once.
-use Rattle.std.proofs.Common.{◌≡◌, ℕ, suc, ◌+◌, ◌-◌, ◌<◌, ◌==◌, nat_lt, ◌&&◌, not, Bool, true, false, length, List, [], ◌∷◌, ◌++◌, take, drop, map, refl, sym, ap, subst, ◌∙◌, arith}
+use Rattle.std.proofs.Common.{◌≡◌, ℕ, suc, ◌+◌, ◌-◌, ◌<◌, ◌≤◌, ◌==◌, nat_lt, ◌&&◌, not, Bool, true, false, length, List, [], ◌∷◌, ◌++◌, get_or, map, refl, sym, ap, subst, ◌∙◌, arith}
 use Rattle.std.specs.Prelude.{codes}
 use Rattle.std.specs.declared.option.Option.{Option}
 use Rattle.std.specs.declared.option.Option.TheVariants.{Some}
-use Rattle.std.specs.List.{list_all, prefix_len}
 use Rattle.std.proofs.lemmas.Bool.{and_from, lt-ltb, ne_eqb}
-use Rattle.std.proofs.lemmas.List.{take-append-drop}
-use Rattle.std.proofs.lemmas.List.Sums.{prefix_len-le-length}
-use Rattle.bsdl_lex.specs.Tokens.{within, is_letter, is_digit, in_word}
+use Rattle.bsdl_lex.specs.Tokens.{within}
 use Rattle.bsdl_lex.proofs.Complete.{within_parts}
 use Rattle.bsdl_read.specs.Words.{capital, same_word}
-use Rattle.bsdl_read.specs.Contents.{is_short, number_from, through}
-use Rattle.bsdl_read.specs.ContentGrammar.{are_spaces, Padded, written_padded, IsPadded, is_name, name_of, written_length, is_instruction}
-use Rattle.bsdl_read.specs.Accesses.{Entries, next_byte, at_stage, with_entries, at_name, with_opened, with_named, HasWord, HasLength, OpensWith, NamesOne, sign_behind}
+use Rattle.bsdl_read.specs.Contents.{through}
+use Rattle.bsdl_read.specs.ContentGrammar.{Padded, written_padded, IsPadded, is_name, name_of, written_length, is_instruction}
+use Rattle.bsdl_read.specs.Accesses.{Entries, next_byte, at_stage, with_entries, at_name, with_opened, with_named, HasLength, OpensWith, NamesOne, sign_behind}
 use Rattle.bsdl_read.specs.declared.accesses.AccessStage.TheVariants as stage
-use Rattle.bsdl_read.proofs.Spans.{passes-front}
+use Rattle.bsdl_read.specs.Places.{between, AreBlanks, IsWord, IsNumber, HasSign}
+use Rattle.bsdl_read.proofs.Betweens.{parted, begins_at, length-between}
 use Rattle.bsdl_read.proofs.AccessParts.{with_parts, opened_goes, name_goes}
 use Rattle.bsdl_read.proofs.AccessWords.{fine_result, same_ok}
 
 -- ---- what the front is
-
-letters_then : (first : ℕ) (more : List ℕ) → is_letter first ≡ true → HasWord (first ∷ more) (prefix_len in_word (first ∷ more))
-letters_then first more letter =
-    let is : in_word first ≡ true = rw letter refl in
-    let count : 1 + prefix_len in_word more ≡ suc (prefix_len in_word more) = omega arith in
-    rw (is, count) record {
-      within = omega (arith, prefix_len-le-length in_word more);
-      some = omega arith;
-      letters = and_from (in_word first) (list_all in_word (take (prefix_len in_word more) more)) is (passes-front in_word more);
-      has_name = and_from (is_letter first) (list_all in_word (take (prefix_len in_word more) more)) letter (passes-front in_word more);
-    }
-
-pub has_word : (bytes : List ℕ) (first : ℕ) (more : List ℕ) (count : ℕ) → bytes ≡ first ∷ more → is_letter first ≡ true → count ≡ prefix_len in_word bytes → HasWord bytes count
-has_word bytes first more count are letter is = rw is (rw are (letters_then first more letter))
-
-pub front_letters : (bytes : List ℕ) (count : ℕ) → bytes ≡ take count bytes ++ drop count bytes
-front_letters bytes count = sym (take-append-drop count bytes)
 
 -- words of other lengths are other words
 other_word : (word other : List ℕ) → (length word ≡ length other → ⊥) → same_word word other ≡ false
@@ -48,36 +29,35 @@ other_word (x ∷ word) (y ∷ other) differ = by (capital x == capital y) (othe
     by true rest = rest
     by false rest = refl
 
-pub other_length : (word other : List ℕ) (count : ℕ) → length other ≡ count → (length word ≡ count → ⊥) → (length word == count) ≡ same_word word other
-other_length word other count is differ = ne_eqb (length word) count differ ∙ sym (other_word word other (λ same. differ (same ∙ is)))
+pub other_length : (text : List ℕ) (start stop : ℕ) (other : List ℕ) → IsWord text start stop → (stop - start ≡ length other → ⊥) → (stop - start == length other) ≡ same_word (between text start stop) other
+other_length text start stop other is differ =
+    ne_eqb (stop - start) (length other) differ
+    ∙ sym (other_word (between text start stop) other (λ same. differ (sym (length-between text start stop (omega (arith, is.rises)) is.ends) ∙ same)))
 
-short_from : (digits : List ℕ) → (length digits == 0) ≡ false → length digits < 10 → list_all is_digit digits ≡ true → is_short digits ≡ true
-short_from [] some few all = absurd (cc some)
-short_from (digit ∷ digits) some few all =
-    and_from (nat_lt 0 (length (digit ∷ digits))) (nat_lt (length (digit ∷ digits)) 10 && list_all is_digit (digit ∷ digits)) (lt-ltb 0 (length (digit ∷ digits)) (omega arith))
-    (and_from (nat_lt (length (digit ∷ digits)) 10) (list_all is_digit (digit ∷ digits)) (lt-ltb (length (digit ∷ digits)) 10 few) all)
-
-pub has_length : (bytes inside before number digits end blanks closed behind rest : List ℕ) (value : ℕ)
-    → bytes ≡ 91 ∷ inside → inside ≡ before ++ number → number ≡ digits ++ end → end ≡ blanks ++ closed → closed ≡ 93 ∷ behind ++ rest
-    → are_spaces before ≡ true → list_all is_digit digits ≡ true → are_spaces blanks ≡ true → are_spaces behind ≡ true → (length digits == 0) ≡ false → length digits < 10 → value ≡ number_from 0 digits
-    → HasLength bytes (Some value) rest
-has_length bytes inside before number digits end blanks closed behind rest value opens with_before with_digits with_blanks closes is_before is_digits is_blanks is_behind some few is = record {
-  text = Some (record { number = record { before = before; inside = digits; behind = blanks }; behind = behind });
-  are = opens ∙ ap (λ (x : List ℕ). 91 ∷ x) (with_before ∙ ap (λ (x : List ℕ). before ++ x) (with_digits ∙ ap (λ (x : List ℕ). digits ++ x) (with_blanks ∙ ap (λ (x : List ℕ). blanks ++ x) closes)));
-  says = ap (λ (n : ℕ). Some n) (sym is);
-  has_length = record { has_number = record { blank_before = is_before; is_inside = short_from digits some few is_digits; blank_behind = is_blanks }; blank_behind = is_behind };
+pub has_length : (text : List ℕ) (start digits stop close behind end value : ℕ) → end ≤ length text → HasSign text 91 start end → AreBlanks text (start + 1) digits end → IsNumber text digits stop end value
+    → AreBlanks text stop close end → HasSign text 93 close end → AreBlanks text (close + 1) behind end → HasLength (between text start end) (Some value) (between text behind end)
+has_length text start digits stop close behind end value ends opens before number blanks closes more = record {
+  text = Some (record { number = record { before = between text (start + 1) digits; inside = between text digits stop; behind = between text stop close }; behind = between text (close + 1) behind });
+  are = opens.is ∙ ap (λ (x : List ℕ). 91 ∷ x) (parted text (start + 1) digits end before.rises before.ends
+      ∙ ap (λ (x : List ℕ). between text (start + 1) digits ++ x) (parted text digits stop end (omega (arith, number.rises)) number.ends
+      ∙ ap (λ (x : List ℕ). between text digits stop ++ x) (parted text stop close end blanks.rises blanks.ends
+      ∙ ap (λ (x : List ℕ). between text stop close ++ x) (closes.is ∙ ap (λ (x : List ℕ). 93 ∷ x) (parted text (close + 1) behind end more.rises more.ends)))));
+  says = ap (λ (n : ℕ). Some n) (sym number.is);
+  has_length = record { has_number = record { blank_before = before.blank; is_inside = number.short; blank_behind = blanks.blank }; blank_behind = more.blank };
 }
 
-pub opens_with : (bytes before named word blanks behind list opened names : List ℕ) (length : Option ℕ)
-    → bytes ≡ before ++ named → named ≡ word ++ blanks → blanks ≡ behind ++ list → HasLength list length opened → opened ≡ 40 ∷ names
-    → are_spaces before ≡ true → is_name word ≡ true → are_spaces behind ≡ true → OpensWith bytes word length names
-opens_with bytes before named word blanks behind list opened names length with_before with_word with_behind has opens is_before is_word is_behind = record {
-  register = record { before = before; inside = word; behind = behind };
+pub opens_with : (text : List ℕ) (start first stop list opened end : ℕ) (length_is : Option ℕ) → AreBlanks text start first end → IsWord text first stop → AreBlanks text stop list end
+    → HasLength (between text list end) length_is (between text opened end) → HasSign text 40 opened end → OpensWith (between text start end) (between text first stop) length_is (between text (opened + 1) end)
+opens_with text start first stop list opened end length_is before word blanks has opens = record {
+  register = record { before = between text start first; inside = between text first stop; behind = between text stop list };
   text = has.text;
-  are = with_before ∙ ap (λ (x : List ℕ). before ++ x) (with_word ∙ ap (λ (x : List ℕ). word ++ x) (with_behind ∙ ap (λ (x : List ℕ). behind ++ x) (has.are ∙ ap (written_length has.text) opens)));
+  are = parted text start first end before.rises before.ends
+      ∙ ap (λ (x : List ℕ). between text start first ++ x) (parted text first stop end (omega (arith, word.rises)) (omega (arith, blanks.rises, blanks.ends))
+      ∙ ap (λ (x : List ℕ). between text first stop ++ x) (parted text stop list end blanks.rises blanks.ends
+      ∙ ap (λ (x : List ℕ). between text stop list ++ x) (has.are ∙ ap (written_length has.text) opens.is)));
   is_word = refl;
   says = has.says;
-  has_register = record { blank_before = is_before; is_inside = is_word; blank_behind = is_behind };
+  has_register = record { blank_before = before.blank; is_inside = word.has_name; blank_behind = blanks.blank };
   has_length = has.has_length;
 }
 
@@ -105,14 +85,16 @@ same_in_capitals (x ∷ word) (y ∷ other) = ap (λ (z : ℕ). (z == capital y)
 instruction_from : (word : List ℕ) → is_name word ≡ true → same_word word (codes "RUNBIST") ≡ false → is_instruction word ≡ true
 instruction_from word is other = and_from (is_name word) (not (same_word (map capital word) (codes "RUNBIST"))) is (rw (same_in_capitals word (codes "RUNBIST"), other) refl)
 
-pub names_one : (bytes before named word blanks behind signed rest : List ℕ) (sign : ℕ) (is_last : Bool)
-    → bytes ≡ before ++ named → named ≡ word ++ blanks → blanks ≡ behind ++ signed → signed ≡ sign ∷ rest → sign ≡ sign_behind is_last
-    → are_spaces before ≡ true → is_name word ≡ true → are_spaces behind ≡ true → same_word word (codes "RUNBIST") ≡ false → NamesOne bytes word is_last rest
-names_one bytes before named word blanks behind signed rest sign is_last with_before with_word with_behind with_sign ends is_before is_word is_behind other = record {
-  name = record { before = before; inside = word; behind = behind };
-  are = with_before ∙ ap (λ (x : List ℕ). before ++ x) (with_word ∙ ap (λ (x : List ℕ). word ++ x) (with_behind ∙ ap (λ (x : List ℕ). behind ++ x) (with_sign ∙ ap (λ (s : ℕ). s ∷ rest) ends)));
+pub names_one : (text : List ℕ) (start first stop close end : ℕ) (d : ℕ) (is_last : Bool) → end ≤ length text → AreBlanks text start first end → IsWord text first stop → AreBlanks text stop close end → close < end
+    → get_or text close d ≡ sign_behind is_last → same_word (between text first stop) (codes "RUNBIST") ≡ false → NamesOne (between text start end) (between text first stop) is_last (between text (close + 1) end)
+names_one text start first stop close end d is_last ends before word blanks there sign other = record {
+  name = record { before = between text start first; inside = between text first stop; behind = between text stop close };
+  are = parted text start first end before.rises before.ends
+      ∙ ap (λ (x : List ℕ). between text start first ++ x) (parted text first stop end (omega (arith, word.rises)) (omega (arith, blanks.rises, blanks.ends))
+      ∙ ap (λ (x : List ℕ). between text first stop ++ x) (parted text stop close end blanks.rises blanks.ends
+      ∙ ap (λ (x : List ℕ). between text stop close ++ x) (begins_at text close end d there ends ∙ ap (λ (s : ℕ). s ∷ between text (close + 1) end) sign)));
   is_word = refl;
-  has_name = record { blank_before = is_before; is_inside = instruction_from word is_word other; blank_behind = is_behind };
+  has_name = record { blank_before = before.blank; is_inside = instruction_from (between text first stop) word.has_name other; blank_behind = blanks.blank };
 }
 
 -- ---- what it leads to
@@ -149,24 +131,37 @@ entry_begins e bytes word name length names is_last behind between opens ends =
     name_ends (with_opened e word length) (with_named (with_opened e word length) name is_last) names name is_last behind due refl ends
     ∙ register_opens e (with_opened e word length) bytes word length names between refl opens
 
+is_other : (test other : Bool) → not test ≡ other → test ≡ not other
+is_other test other is = by test refl
+  where
+    by : (b : Bool) → test ≡ b → test ≡ not other
+    by true h = let none : false ≡ other = rw h at is in h ∙ ap not none
+    by false h = let all : true ≡ other = rw h at is in h ∙ ap not all
+
 pub entry_opens : (e after : Entries) (bytes word name : List ℕ) (length : Option ℕ) (names : List ℕ) (is_last last : Bool) (behind : List ℕ) → e ≡ with_entries e.done → OpensWith bytes word length names
     → fine_result (with_named (with_opened e word length) name last) ≡ fine_result after → is_last ≡ last → NamesOne names name is_last behind → through next_byte after behind ≡ through next_byte e bytes
 entry_opens e after bytes word name length names is_last last behind between opens leads same ends =
     ap (λ (x : Entries). through next_byte x behind) (sym (same_ok _ _ leads)) ∙ entry_begins e bytes word name length names last behind between opens (subst (λ (sign : Bool). NamesOne names name sign behind) same ends)
 
+-- a register with its first instruction, which is read on its own
+pub first_name_ends : (e opened after : Entries) (bytes word name : List ℕ) (length : Option ℕ) (names : List ℕ) (is_last : Bool) (behind : List ℕ) → e ≡ with_entries e.done → OpensWith bytes word length names
+    → fine_result (with_opened e word length) ≡ fine_result opened → fine_result (with_named opened name false) ≡ fine_result after → not is_last ≡ true → NamesOne names name is_last behind → through next_byte after behind ≡ through next_byte e bytes
+first_name_ends e opened after bytes word name length names is_last behind between opens begins leads same ends =
+    entry_opens e after bytes word name length names is_last false behind between opens (ap (λ (x : Entries). fine_result (with_named x name false)) (same_ok _ _ begins) ∙ leads) (is_other is_last true same) ends
+
 -- a whole entry with one instruction, and no `,` behind it
 pub entry_closes : (e after : Entries) (bytes word name : List ℕ) (length : Option ℕ) (names : List ℕ) (is_last : Bool) (behind : List ℕ) → e ≡ with_entries e.done → OpensWith bytes word length names
-    → fine_result (at_stage (with_named (with_opened e word length) name true) stage.Entry) ≡ fine_result after → is_last ≡ true → NamesOne names name is_last behind → through next_byte (at_stage after stage.Closed) behind ≡ through next_byte e bytes
+    → fine_result (at_stage (with_named (with_opened e word length) name true) stage.Entry) ≡ fine_result after → not is_last ≡ false → NamesOne names name is_last behind → through next_byte (at_stage after stage.Closed) behind ≡ through next_byte e bytes
 entry_closes e after bytes word name length names is_last behind between opens leads same ends =
-    entry_opens e (at_stage after stage.Closed) bytes word name length names is_last true behind between opens (ap (λ (x : Entries). fine_result (at_stage x stage.Closed)) (same_ok _ _ leads)) same ends
+    entry_opens e (at_stage after stage.Closed) bytes word name length names is_last true behind between opens (ap (λ (x : Entries). fine_result (at_stage x stage.Closed)) (same_ok _ _ leads)) (is_other is_last false same) ends
 
 -- and with a `,` behind it
 pub entry_joins : (e after : Entries) (bytes word name : List ℕ) (length : Option ℕ) (names : List ℕ) (is_last : Bool) (behind rest : List ℕ) → e ≡ with_entries e.done → OpensWith bytes word length names
-    → fine_result (at_stage (with_named (with_opened e word length) name true) stage.Entry) ≡ fine_result after → is_last ≡ true → NamesOne names name is_last behind → behind ≡ 44 ∷ rest → through next_byte after rest ≡ through next_byte e bytes
+    → fine_result (at_stage (with_named (with_opened e word length) name true) stage.Entry) ≡ fine_result after → not is_last ≡ false → NamesOne names name is_last behind → behind ≡ 44 ∷ rest → through next_byte after rest ≡ through next_byte e bytes
 entry_joins e after bytes word name length names is_last behind rest between opens leads same ends joins =
     ap (λ (x : Entries). through next_byte x rest) (sym (same_ok _ _ leads))
     ∙ ap (through next_byte (with_named (with_opened e word length) name true)) (sym joins)
-    ∙ entry_opens e (with_named (with_opened e word length) name true) bytes word name length names is_last true behind between opens refl same ends
+    ∙ entry_opens e (with_named (with_opened e word length) name true) bytes word name length names is_last true behind between opens refl (is_other is_last false same) ends
 
 -- and nothing of the next entry was read
 pub still_between : (e after : Entries) (word name : List ℕ) (length : Option ℕ) → e ≡ with_entries e.done → fine_result (at_stage (with_named (with_opened e word length) name true) stage.Entry) ≡ fine_result after → after ≡ with_entries after.done

@@ -10,6 +10,7 @@ pub mod OpcodeParts
 pub mod PatternParts
 pub mod AccessParts
 pub mod AccessWords
+pub mod Betweens
 pub mod AccessFronts
 pub mod Contenting
 pub mod Fronting

@@ -1,7 +1,6 @@
 -- The content of REGISTER_ACCESS: entries joined by `,`; an entry is a register, `(`, names joined by `,`, and `)`; a register is a name
 -- or `name [ number ]`. Left out of the subset, with a cause of their own: the word CAPTURES behind a name, and the instruction RUNBIST.
-use Rattle.std.specs.Prelude.{◌≡◌, ℕ, ◌==◌, ◌<◌, ◌≤◌, Bool, true, false, List, [], ◌∷◌, ◌++◌, length, take, map, codes, if◌then◌else◌, Result, Ok, Err}
-use Rattle.std.specs.List.{list_all}
+use Rattle.std.specs.Prelude.{◌≡◌, ℕ, ◌==◌, Bool, true, false, List, [], ◌∷◌, ◌++◌, map, codes, if◌then◌else◌, Result, Ok, Err}
 use Rattle.std.specs.declared.option.Option.{Option}
 use Rattle.std.specs.declared.option.Option.TheVariants.{None, Some}
 use Rattle.bsdl_lex.specs.declared.Token.{Token}
@@ -162,13 +161,6 @@ with_opened e word length = record e { stage = stage.Instruction; register = map
 abbrev pub with_named : Entries → List ℕ → Bool → Entries
 with_named e word true = with_entry (record e { name = map capital word })
 with_named e word false = with_name (record e { name = map capital word })
-
--- the bytes begin with a word of so many letters
-pub record HasWord (bytes : List ℕ) (count : ℕ) : Type 0 where
-  pub within : count ≤ length bytes
-  pub some : 0 < count
-  pub letters : list_all in_word (take count bytes) ≡ true
-  pub has_name : is_name (take count bytes) ≡ true
 
 -- the bytes begin with a length in brackets, or with none
 pub record HasLength (bytes : List ℕ) (length : Option ℕ) (behind : List ℕ) : Type 0 where

@@ -7,6 +7,7 @@ pub mod Contents
 pub mod Opcodes
 pub mod ContentGrammar
 pub mod Patterns
+pub mod Places
 pub mod Accesses
 pub mod Reading
 pub mod Laws

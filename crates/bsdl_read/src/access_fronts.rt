@@ -1,107 +1,97 @@
-// What stands whole at the front of a text of REGISTER_ACCESS is read at once, and the rest byte by byte.
-ghost use Rattle.std.specs.Prelude.{◌≡◌, ℕ, ◌<◌, ◌≤◌, [], true, false, length, take, codes, IsTrue, IfOk, IfErr, IfSome, Result, Ok};
+// What stands whole in a text of REGISTER_ACCESS from a place on is read at once, and the rest byte by byte.
+ghost use Rattle.std.specs.Prelude.{◌≡◌, ℕ, ◌<◌, ◌≤◌, [], true, false, length, map, codes, IsTrue, IfOk, IfErr, IfSome, Result, Ok};
 ghost use Rattle.bsdl_lex.specs.Tokens.{SpansRise};
 ghost use Rattle.bsdl_read.specs.Words as w;
 ghost use Rattle.bsdl_read.specs.Contents as c;
+ghost use Rattle.bsdl_read.specs.Places as p;
 ghost use Rattle.bsdl_read.specs.Accesses as a;
 ghost use Rattle.bsdl_read.specs.declared.accesses.AccessStage.TheVariants.{Entry};
 
 use crate::accesses::{AccessReading, AccessStage};
-use crate::contents::{
-    ContentFault, behind_sign, front_name_of, inside, is_space, number_of, split_run,
+use crate::contents::{ContentFault, front_name_of};
+use crate::places::{
+    NumberAt, behind_blanks, byte_at, has_sign, number_at, places_inside, word_end,
 };
 use crate::words::same_word;
-use bsdl_lex::{Token, is_digit, is_letter, word_length};
+use base_types::Text;
+use bsdl_lex::Token;
 use part_model::{Access, Names};
-use std::alloc::Global;
+use std::alloc::{AllocError, Global};
 
-// So many letters at the front of these bytes.
+// A length in brackets, or none, and the place behind it.
 #[derive(Clone, Copy)]
-struct FrontWord<'a> {
-    bytes: &'a [u8],
-    count: usize,
-}
-
-// A length in brackets, or none, and the bytes behind it.
-#[derive(Clone, Copy)]
-struct FrontLength<'a> {
+struct FrontLength {
     length: Option<u32>,
-    behind: &'a [u8],
+    behind: usize,
 }
 
-// A register with or without its length, and the bytes behind the `(` of its names.
+// Where a register begins and ends, its length or none, and the place behind the `(` of its names.
 #[derive(Clone, Copy)]
-struct FrontRegister<'a> {
-    word: FrontWord<'a>,
+struct FrontRegister {
+    start: usize,
+    stop: usize,
     length: Option<u32>,
-    behind: &'a [u8],
+    behind: usize,
 }
 
-// A name, whether its list ends with it, and the bytes behind the `)` or the `,`.
+// Where a name begins and ends, whether its list ends with it, and the place behind the `)` or the `,`.
 #[derive(Clone, Copy)]
-struct FrontName<'a> {
-    word: FrontWord<'a>,
+struct FrontName {
+    start: usize,
+    stop: usize,
     is_last: bool,
-    behind: &'a [u8],
+    behind: usize,
 }
 
-// How many letters the word at the front has, as far as it stands there.
+// The length, where there is one and it stands whole.
 #[inline(always)]
-fn front_word(bytes: &[u8]) -> Option<usize>
-    ensures { IfSome result (λ count. a.HasWord bytes.now count) }
+fn front_length(text: &[u8], start: usize, end: usize) -> Option<FrontLength>
+    requires rises { start ≤ end }
+    requires ends { end ≤ length text.now }
+    ensures is { IfSome result (λ front. a.HasLength (p.between text.now start end) front.length (p.between text.now front.behind end)) }
+    ensures rises { IfSome result (λ front. start ≤ front.behind) }
+    ensures ends { IfSome result (λ front. front.behind ≤ end) }
 {
-    let (first, _) = bytes.split_first()?;
-    if is_letter(*first) {
-        Some(word_length(bytes))
-    } else {
-        None
-    }
-}
-
-// The length at the front, where there is one and it stands whole.
-#[inline(always)]
-fn front_length(bytes: &[u8]) -> Option<FrontLength<'_>>
-    ensures is { IfSome result (λ front. a.HasLength bytes.now front.length front.behind.now) }
-    ensures less { IfSome result (λ front. length front.behind.now ≤ length bytes.now) }
-{
-    let Some(padded) = behind_sign(bytes, b'[') else {
+    if !has_sign(text, start, end, b'[') {
         return Some(FrontLength {
             length: None,
-            behind: bytes,
+            behind: start,
         });
-    };
-    let (_, number) = split_run(padded, is_space);
-    let (digits, blanks) = split_run(number, is_digit);
-    if digits.is_empty() || digits.len() >= 10 {
+    }
+    let digits = behind_blanks(text, start + 1, end);
+    let NumberAt { value, stop } = number_at(text, digits, end)?;
+    let close = behind_blanks(text, stop, end);
+    if !has_sign(text, close, end, b']') {
         return None;
     }
-    let (_, end) = split_run(blanks, is_space);
-    let (_, behind) = split_run(behind_sign(end, b']')?, is_space);
     Some(FrontLength {
-        length: Some(number_of(digits)),
-        behind,
+        length: Some(value),
+        behind: behind_blanks(text, close + 1, end),
     })
 }
 
-// The register at the front, where it stands whole.
+// The register, where it stands whole.
 #[inline(always)]
-fn front_register(bytes: &[u8]) -> Option<FrontRegister<'_>>
-    ensures is { IfSome result (λ front. a.OpensWith bytes.now (take front.word.count front.word.bytes.now) front.length front.behind.now) }
-    ensures word { IfSome result (λ front. a.HasWord front.word.bytes.now front.word.count) }
-    ensures less { IfSome result (λ front. length front.behind.now < length bytes.now) }
+fn front_register(text: &[u8], start: usize, end: usize) -> Option<FrontRegister>
+    requires rises { start ≤ end }
+    requires ends { end ≤ length text.now }
+    ensures is { IfSome result (λ front. a.OpensWith (p.between text.now start end) (p.between text.now front.start front.stop) front.length (p.between text.now front.behind end)) }
+    ensures word { IfSome result (λ front. p.IsWord text.now front.start front.stop) }
+    ensures rises { IfSome result (λ front. start < front.behind) }
+    ensures ends { IfSome result (λ front. front.behind ≤ end) }
 {
-    let (_, padded) = split_run(bytes, is_space);
-    let count = front_word(padded)?;
-    let (_, list) = split_run(padded.split_at(count).1, is_space);
-    let FrontLength { length, behind } = front_length(list)?;
-    let behind = behind_sign(behind, b'(')?;
+    let first = behind_blanks(text, start, end);
+    let stop = word_end(text, first, end)?;
+    let list = behind_blanks(text, stop, end);
+    let FrontLength { length, behind } = front_length(text, list, end)?;
+    if !has_sign(text, behind, end, b'(') {
+        return None;
+    }
     Some(FrontRegister {
-        word: FrontWord {
-            bytes: padded,
-            count,
-        },
+        start: first,
+        stop,
         length,
-        behind,
+        behind: behind + 1,
     })
 }
 
@@ -119,36 +109,49 @@ fn ends_list(sign: u8) -> Option<bool>
 
 // Whether a name is that of the instruction RUNBIST.
 #[inline(always)]
-fn is_runbist(name: &[u8]) -> bool
-    ensures { result ≡ w.same_word name.now (codes "RUNBIST") }
+fn is_runbist(text: &[u8], start: usize, stop: usize) -> bool
+    requires { p.IsWord text.now start stop }
+    ensures { result ≡ w.same_word (p.between text.now start stop) (codes "RUNBIST") }
 {
-    name.len() == 7 && same_word(name, b"RUNBIST")
+    let count = stop - start;
+    count == 7 && same_word(text.split_at(start).1.split_at(count).0, b"RUNBIST")
 }
 
-// The name at the front and the sign behind it, where both stand there and the name is not RUNBIST.
+// The name and the sign behind it, where both stand there and the name is not RUNBIST.
 #[inline(always)]
-fn front_name(bytes: &[u8]) -> Option<FrontName<'_>>
-    ensures is { IfSome result (λ front. a.NamesOne bytes.now (take front.word.count front.word.bytes.now) front.is_last front.behind.now) }
-    ensures word { IfSome result (λ front. a.HasWord front.word.bytes.now front.word.count) }
-    ensures less { IfSome result (λ front. length front.behind.now < length bytes.now) }
+fn front_name(text: &[u8], start: usize, end: usize) -> Option<FrontName>
+    requires rises { start ≤ end }
+    requires ends { end ≤ length text.now }
+    ensures is { IfSome result (λ front. a.NamesOne (p.between text.now start end) (p.between text.now front.start front.stop) front.is_last (p.between text.now front.behind end)) }
+    ensures word { IfSome result (λ front. p.IsWord text.now front.start front.stop) }
+    ensures rises { IfSome result (λ front. start < front.behind) }
+    ensures ends { IfSome result (λ front. front.behind ≤ end) }
 {
-    let (_, padded) = split_run(bytes, is_space);
-    let count = front_word(padded)?;
-    let (letters, blanks) = padded.split_at(count);
-    let (_, end) = split_run(blanks, is_space);
-    let (sign, behind) = end.split_first()?;
-    let is_last = ends_list(*sign)?;
-    if is_runbist(letters) {
+    let first = behind_blanks(text, start, end);
+    let stop = word_end(text, first, end)?;
+    let close = behind_blanks(text, stop, end);
+    if close >= end {
+        return None;
+    }
+    let is_last = ends_list(text[close])?;
+    if is_runbist(text, first, stop) {
         return None;
     }
     Some(FrontName {
-        word: FrontWord {
-            bytes: padded,
-            count,
-        },
+        start: first,
+        stop,
         is_last,
-        behind,
+        behind: close + 1,
     })
+}
+
+// The word between two places, in capitals.
+#[inline(always)]
+fn name_between(alloc: Global, text: &[u8], start: usize, stop: usize) -> Result<Text, AllocError>
+    requires { p.IsWord text.now start stop }
+    ensures { IfOk result (λ name. name ≡ map w.capital (p.between text.now start stop)) }
+{
+    front_name_of(alloc, text.split_at(start).1, stop - start)
 }
 
 impl AccessReading {
@@ -183,13 +186,20 @@ impl AccessReading {
     }
 
     // A register whose names are due.
-    fn opened(&mut self, alloc: Global, front: FrontRegister<'_>) -> Result<(), ContentFault>
-        requires { a.HasWord front.word.bytes.now front.word.count }
-        ensures { c.Steps (a.view self.new) result (Ok (a.with_opened (a.view self.old) (take front.entry.word.count front.entry.word.bytes.now) front.entry.length)) }
+    fn opened(
+        &mut self,
+        alloc: Global,
+        text: &[u8],
+        start: usize,
+        stop: usize,
+        length: Option<u32>,
+    ) -> Result<(), ContentFault>
+        requires { p.IsWord text.now start stop }
+        ensures { c.Steps (a.view self.new) result (Ok (a.with_opened (a.view self.old) (p.between text.now start stop) length)) }
     {
         self.stage = AccessStage::Instruction;
-        self.register = front_name_of(alloc, front.word.bytes, front.word.count)?;
-        self.length = front.length;
+        self.register = name_between(alloc, text, start, stop)?;
+        self.length = length;
         Ok(())
     }
 
@@ -198,16 +208,17 @@ impl AccessReading {
     fn entered(
         &mut self,
         alloc: Global,
-        front: FrontRegister<'_>,
-        name: FrontWord<'_>,
+        text: &[u8],
+        front: FrontRegister,
+        name: FrontName,
     ) -> Result<(), ContentFault>
         requires between { a.view self.old ≡ a.with_entries self.old.done.items }
-        requires register { a.HasWord front.word.bytes.now front.word.count }
-        requires name { a.HasWord name.bytes.now name.count }
-        ensures { c.Steps (a.view self.new) result (Ok (a.at_stage (a.with_named (a.with_opened (a.view self.old) (take front.entry.word.count front.entry.word.bytes.now) front.entry.length) (take name.entry.count name.entry.bytes.now) true) Entry)) }
+        requires register { p.IsWord text.now front.start front.stop }
+        requires name { p.IsWord text.now name.start name.stop }
+        ensures { c.Steps (a.view self.new) result (Ok (a.at_stage (a.with_named (a.with_opened (a.view self.old) (p.between text.now front.start front.stop) front.length) (p.between text.now name.start name.stop) true) Entry)) }
     {
-        let register = front_name_of(alloc, front.word.bytes, front.word.count)?;
-        let instructions = Names::one(alloc, front_name_of(alloc, name.bytes, name.count)?);
+        let register = name_between(alloc, text, front.start, front.stop)?;
+        let instructions = Names::one(alloc, name_between(alloc, text, name.start, name.stop)?);
         self.done.push(Access {
             register,
             length: front.length,
@@ -216,60 +227,57 @@ impl AccessReading {
         Ok(())
     }
 
-    // A register that stands whole at the front, and its first instruction, which is not its last.
-    fn begun(
+    // Entries that stand whole with one instruction each, and what stands whole of the entry behind them. Answers the place behind
+    // what was read.
+    fn entries(
         &mut self,
         alloc: Global,
-        front: FrontRegister<'_>,
-        name: FrontWord<'_>,
-    ) -> Result<(), ContentFault>
-        requires register { a.HasWord front.word.bytes.now front.word.count }
-        requires name { a.HasWord name.bytes.now name.count }
-        ensures { c.Steps (a.view self.new) result (Ok (a.with_named (a.with_opened (a.view self.old) (take front.entry.word.count front.entry.word.bytes.now) front.entry.length) (take name.entry.count name.entry.bytes.now) false)) }
-    {
-        self.opened(alloc, front)?;
-        self.named(alloc, name, false)
-    }
-
-    // Entries that stand whole at the front with one instruction each, and what stands whole of the entry behind them. Answers the
-    // bytes behind what was read.
-    fn entries<'a>(&mut self, alloc: Global, bytes: &'a [u8]) -> Result<&'a [u8], ContentFault>
-        requires { a.view self.old ≡ a.with_entries self.old.done.items }
-        ensures goes { IfOk result (λ behind. c.through a.next_byte (a.view self.new) behind.now ≡ c.through a.next_byte (a.view self.old) bytes.now) }
-        ensures less { IfOk result (λ behind. length behind.now ≤ length bytes.now) }
+        text: &[u8],
+        start: usize,
+        end: usize,
+    ) -> Result<usize, ContentFault>
+        requires between { a.view self.old ≡ a.with_entries self.old.done.items }
+        requires rises { start ≤ end }
+        requires ends { end ≤ length text.now }
+        ensures goes { IfOk result (λ behind. c.through a.next_byte (a.view self.new) (p.between text.now behind end) ≡ c.through a.next_byte (a.view self.old) (p.between text.now start end)) }
+        ensures rises { IfOk result (λ behind. start ≤ behind) }
+        ensures ends { IfOk result (λ behind. behind ≤ end) }
         ensures fault { (read : Result a.Entries ℕ) → IfErr result (λ fault. c.Refuses fault read) }
     {
-        let mut rest = bytes;
-        while let Some(front) = front_register(rest) {
-            let Some(name) = front_name(front.behind) else {
-                self.opened(alloc, front)?;
+        let mut place = start;
+        while let Some(front) = front_register(text, place, end) {
+            let Some(name) = front_name(text, front.behind, end) else {
+                self.opened(alloc, text, front.start, front.stop, front.length)?;
                 return Ok(front.behind);
             };
             if !name.is_last {
-                self.begun(alloc, front, name.word)?;
+                self.opened(alloc, text, front.start, front.stop, front.length)?;
+                self.named(alloc, text, name.start, name.stop, false)?;
                 return Ok(name.behind);
             }
-            self.entered(alloc, front, name.word)?;
-            let Some(behind) = behind_sign(name.behind, b',') else {
+            self.entered(alloc, text, front, name)?;
+            if !has_sign(text, name.behind, end, b',') {
                 self.stage = AccessStage::Closed;
                 return Ok(name.behind);
-            };
-            rest = behind;
+            }
+            place = name.behind + 1;
         }
-        Ok(rest)
+        Ok(place)
     }
 
     // A whole name, which may be the last of its entry.
     fn named(
         &mut self,
         alloc: Global,
-        word: FrontWord<'_>,
+        text: &[u8],
+        start: usize,
+        stop: usize,
         is_last: bool,
     ) -> Result<(), ContentFault>
-        requires { a.HasWord word.bytes.now word.count }
-        ensures { c.Steps (a.view self.new) result (Ok (a.with_named (a.view self.old) (take word.entry.count word.entry.bytes.now) is_last)) }
+        requires { p.IsWord text.now start stop }
+        ensures { c.Steps (a.view self.new) result (Ok (a.with_named (a.view self.old) (p.between text.now start stop) is_last)) }
     {
-        self.name = front_name_of(alloc, word.bytes, word.count)?;
+        self.name = name_between(alloc, text, start, stop)?;
         if is_last {
             return self.entry(alloc);
         }
@@ -280,83 +288,112 @@ impl AccessReading {
     fn register_word(
         &mut self,
         alloc: Global,
-        bytes: &[u8],
-        count: usize,
+        text: &[u8],
+        start: usize,
+        stop: usize,
     ) -> Result<(), ContentFault>
-        requires { a.HasWord bytes.now count }
-        ensures { c.Steps (a.view self.new) result (Ok (a.with_register_word (a.view self.old) (take count bytes.now))) }
+        requires { p.IsWord text.now start stop }
+        ensures { c.Steps (a.view self.new) result (Ok (a.with_register_word (a.view self.old) (p.between text.now start stop))) }
     {
         self.stage = AccessStage::Register;
-        self.register = front_name_of(alloc, bytes, count)?;
+        self.register = name_between(alloc, text, start, stop)?;
         Ok(())
     }
 
     // All letters of a name that stand in one text.
-    fn name_word(&mut self, alloc: Global, bytes: &[u8], count: usize) -> Result<(), ContentFault>
-        requires { a.HasWord bytes.now count }
-        ensures { c.Steps (a.view self.new) result (Ok (a.with_name_word (a.view self.old) (take count bytes.now))) }
+    fn name_word(
+        &mut self,
+        alloc: Global,
+        text: &[u8],
+        start: usize,
+        stop: usize,
+    ) -> Result<(), ContentFault>
+        requires { p.IsWord text.now start stop }
+        ensures { c.Steps (a.view self.new) result (Ok (a.with_name_word (a.view self.old) (p.between text.now start stop))) }
     {
         self.stage = AccessStage::Name;
-        self.name = front_name_of(alloc, bytes, count)?;
+        self.name = name_between(alloc, text, start, stop)?;
         Ok(())
     }
 
-    // The letters of a register or of a name, or one byte. Answers the bytes behind it.
-    fn next_part<'a>(&mut self, alloc: Global, bytes: &'a [u8]) -> Result<&'a [u8], ContentFault>
-        requires { 0 < length bytes.now }
-        ensures goes { IfOk result (λ behind. c.through a.next_byte (a.view self.new) behind.now ≡ c.through a.next_byte (a.view self.old) bytes.now) }
-        ensures less { IfOk result (λ behind. length behind.now < length bytes.now) }
-        ensures fault { IfErr result (λ fault. c.Refuses fault (c.through a.next_byte (a.view self.old) bytes.now)) }
+    // The letters of a register or of a name, or one byte. Answers the place behind it.
+    fn next_part(
+        &mut self,
+        alloc: Global,
+        text: &[u8],
+        start: usize,
+        end: usize,
+    ) -> Result<usize, ContentFault>
+        requires before { start < end }
+        requires ends { end ≤ length text.now }
+        ensures goes { IfOk result (λ behind. c.through a.next_byte (a.view self.new) (p.between text.now behind end) ≡ c.through a.next_byte (a.view self.old) (p.between text.now start end)) }
+        ensures less { IfOk result (λ behind. start < behind) }
+        ensures ends { IfOk result (λ behind. behind ≤ end) }
+        ensures fault { IfErr result (λ fault. c.Refuses fault (c.through a.next_byte (a.view self.old) (p.between text.now start end))) }
     {
         if self.awaits_register() {
-            if let Some(count) = front_word(bytes) {
-                self.register_word(alloc, bytes, count)?;
-                return Ok(bytes.split_at(count).1);
+            if let Some(stop) = word_end(text, start, end) {
+                self.register_word(alloc, text, start, stop)?;
+                return Ok(stop);
             }
         }
         if self.awaits_name() {
-            if let Some(count) = front_word(bytes) {
-                self.name_word(alloc, bytes, count)?;
-                return Ok(bytes.split_at(count).1);
+            if let Some(stop) = word_end(text, start, end) {
+                self.name_word(alloc, text, start, stop)?;
+                return Ok(stop);
             }
         }
-        let Some((byte, behind)) = bytes.split_first() else {
-            unreachable!()
-        };
-        self.register_byte(alloc, *byte)?;
-        Ok(behind)
+        let byte = byte_at(text, start, end);
+        self.register_byte(alloc, byte)?;
+        Ok(start + 1)
     }
 
-    // What stands whole at the front, a register or a name, or a part of it. Answers the bytes behind it.
-    fn next<'a>(&mut self, alloc: Global, bytes: &'a [u8]) -> Result<&'a [u8], ContentFault>
-        requires { 0 < length bytes.now }
-        ensures goes { IfOk result (λ behind. c.through a.next_byte (a.view self.new) behind.now ≡ c.through a.next_byte (a.view self.old) bytes.now) }
-        ensures less { IfOk result (λ behind. length behind.now < length bytes.now) }
-        ensures fault { IfErr result (λ fault. c.Refuses fault (c.through a.next_byte (a.view self.old) bytes.now)) }
+    // What stands whole from a place on, entries or a name, or a part of it. Answers the place behind it.
+    fn next(
+        &mut self,
+        alloc: Global,
+        text: &[u8],
+        start: usize,
+        end: usize,
+    ) -> Result<usize, ContentFault>
+        requires before { start < end }
+        requires ends { end ≤ length text.now }
+        ensures goes { IfOk result (λ behind. c.through a.next_byte (a.view self.new) (p.between text.now behind end) ≡ c.through a.next_byte (a.view self.old) (p.between text.now start end)) }
+        ensures less { IfOk result (λ behind. start < behind) }
+        ensures ends { IfOk result (λ behind. behind ≤ end) }
+        ensures fault { IfErr result (λ fault. c.Refuses fault (c.through a.next_byte (a.view self.old) (p.between text.now start end))) }
     {
         if self.is_between() {
-            let rest = self.entries(alloc, bytes)?;
-            if rest.len() < bytes.len() {
-                return Ok(rest);
+            let behind = self.entries(alloc, text, start, end)?;
+            if behind > start {
+                return Ok(behind);
             }
-            return self.next_part(alloc, rest);
+            return self.next_part(alloc, text, behind, end);
         }
         if self.awaits_name() {
-            if let Some(front) = front_name(bytes) {
-                self.named(alloc, front.word, front.is_last)?;
+            if let Some(front) = front_name(text, start, end) {
+                self.named(alloc, text, front.start, front.stop, front.is_last)?;
                 return Ok(front.behind);
             }
         }
-        self.next_part(alloc, bytes)
+        self.next_part(alloc, text, start, end)
     }
 
-    // The bytes of one text of the content.
-    fn bytes(&mut self, alloc: Global, bytes: &[u8]) -> Result<(), ContentFault>
-        ensures { c.Steps (a.view self.new) result (c.through a.next_byte (a.view self.old) bytes.now) }
+    // The bytes between two places.
+    fn bytes(
+        &mut self,
+        alloc: Global,
+        text: &[u8],
+        start: usize,
+        end: usize,
+    ) -> Result<(), ContentFault>
+        requires rises { start ≤ end }
+        requires ends { end ≤ length text.now }
+        ensures { c.Steps (a.view self.new) result (c.through a.next_byte (a.view self.old) (p.between text.now start end)) }
     {
-        let mut rest = bytes;
-        while !rest.is_empty() {
-            rest = self.next(alloc, rest)?;
+        let mut place = start;
+        while place < end {
+            place = self.next(alloc, text, place, end)?;
         }
         Ok(())
     }
@@ -372,7 +409,8 @@ impl AccessReading {
         ensures { c.Steps (a.view self.new) result (c.through_all a.next_byte text.now (a.view self.old) tokens.now) }
     {
         for token in tokens {
-            self.bytes(alloc, inside(text, *token))?;
+            let (start, end) = places_inside(text, *token);
+            self.bytes(alloc, text, start, end)?;
         }
         Ok(())
     }

@@ -176,7 +176,7 @@ fn all_digits(bytes: &[u8]) -> bool
 }
 
 #[inline(always)]
-fn digit_value(byte: u8) -> u32
+pub fn digit_value(byte: u8) -> u32
     requires { t.is_digit byte ≡ true }
     ensures is { result ≡ byte - 48 }
     ensures bound { result < 10 }

@@ -7,6 +7,7 @@ mod contents;
 mod laws;
 mod opcodes;
 mod patterns;
+mod places;
 mod read;
 mod structure;
 mod words;
