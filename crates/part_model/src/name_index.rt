@@ -208,7 +208,12 @@ impl<'a, V: Copy + Drop> Slot<'a, Option<V>> {
         ensures filled { OnOk result ((other : List ℕ) → indexes.value_at self.new other ≡ indexes.filled (parts.same_name other name.now) value (indexes.value_at self.old other)) }
     {
         match self {
-            Slot::One(kept, own) => Ok(fill_if(is_name(name, kept), own, value)),
+            Slot::One(kept, own) => {
+                if !is_name(name, kept) {
+                    return Ok(false);
+                }
+                Ok(fill_if(true, own, value))
+            }
             _ => self.fill_beside(name, value),
         }
     }
