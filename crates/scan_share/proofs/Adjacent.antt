@@ -21,7 +21,7 @@ rises_at low [] i place rises is = some_none place (sym is)
 rises_at low (first ∷ group) zero place rises is = let le : low ≤ first = rises.0 in let same : first ≡ place = same_Some first place is in omega (arith, le, same)
 rises_at low (first ∷ group) (suc i) place rises is = let le : low ≤ first = rises.0 in omega (arith, le, rises_at (suc first) group i place rises.1 is)
 
-rises_by : (low : ℕ) (group : List ℕ) (i k one other : ℕ) → RisesFrom low group → i ≤ k → slice_get group i ≡ Some one → slice_get group k ≡ Some other → one + (k - i) ≤ other
+pub rises_by : (low : ℕ) (group : List ℕ) (i k one other : ℕ) → RisesFrom low group → i ≤ k → slice_get group i ≡ Some one → slice_get group k ≡ Some other → one + (k - i) ≤ other
 rises_by low [] i k one other rises le is next = some_none one (sym is)
 rises_by low (first ∷ group) zero zero one other rises le is next = let same : one ≡ other = same_Some one other (sym is ∙ next) in omega (arith, same)
 rises_by low (first ∷ group) zero (suc k) one other rises le is next = let same : first ≡ one = same_Some first one is in omega (arith, same, rises_at (suc first) group k other rises.1 next)

@@ -37,3 +37,4 @@ pub mod OwnWidths
 pub mod Answered
 pub mod OwnLongest
 pub mod CodeTests
+pub mod PlaceMasks

@@ -8,5 +8,6 @@ pub mod Laws
 pub mod Rows
 pub mod Parts
 pub mod Codes
+pub mod PlaceMasks
 pub mod Views
 pub mod Costs

@@ -11,7 +11,7 @@ ghost use Rattle.scan_share.specs.Views.{parked_or_broken, open_or_broken, AsksA
 
 use crate::codes::{Codes, codes_at, reset_codes};
 use crate::group_scans::{capture_for, update_for};
-use crate::members::{Places, members, places_of};
+use crate::members::{PlaceMask, mask_of, members, places_of};
 use chain_model::Cable;
 use grant_table::Layout;
 use scan_bits::Bits;
@@ -45,18 +45,19 @@ impl<C: Cable> Model for Parked<C> {
 pub struct Open<C: Cable> {
     line: Line<C>,
     grant: usize,
-    places: Places,
+    places: PlaceMask,
 }
 
 impl<C: Cable> Model for Open<C> {
     ghost use Rattle.base_types.specs.Tellings.{Told};
     ghost use Rattle.chain_model.specs.Cables.{HasDevice};
     ghost use Rattle.scan_share.specs.PrivateChains.{entries_at};
+    ghost use Rattle.scan_share.specs.PlaceMasks.{places_in};
     ghost use Rattle.scan_share.specs.Views.{OpenView, OpenWith};
 
     ghost Value = { OpenView C };
 
-    ghost view = { λ o. record { cable = o.line.cable; loaded = o.line.loaded.items; grant = o.grant; codes = entries_at o.line.loaded.items o.places.items } };
+    ghost view = { λ o. record { cable = o.line.cable; loaded = o.line.loaded.items; grant = o.grant; codes = entries_at o.line.loaded.items (places_in o.places) } };
 
     ghost invariant = { λ o. Told (C.chain o.line.cable) HasDevice × Told (C.chain o.line.cable) (OpenWith o.line.loaded.items) };
 }
@@ -160,7 +161,7 @@ impl<C: Cable> Parked<C> {
         Ok(Open {
             line,
             grant,
-            places: places_of(members(layout, grant)),
+            places: mask_of(members(layout, grant)),
         })
     }
 
@@ -185,7 +186,7 @@ impl<C: Cable> Open<C> {
     pub fn codes(&self) -> Codes
         ensures { result.items ≡ self.now.codes }
     {
-        codes_at(&self.line.loaded, &self.places)
+        codes_at(&self.line.loaded, &places_of(self.places))
     }
 
     /// Updates the registers of a grant's devices from these bits, bit 0 nearest TDO, under the codes that are loaded: the devices hold
