@@ -1,8 +1,10 @@
 -- The codes that are loaded in a group of neighbours, and around it.
-use Rattle.std.proofs.Common.{◌≡◌, ◌≢◌, ◌≤◌, ◌<◌, ◌+◌, ◌==◌, ℕ, List, length, ap, sym, ◌∙◌, arith, Some, None, inl, inr, refl}
+use Rattle.std.proofs.Common.{◌≡◌, ◌≢◌, ◌≤◌, ◌<◌, ◌+◌, ◌==◌, bit_or, ℕ, zero, suc, List, length, ap, sym, ◌∙◌, arith, Some, None, inl, inr, refl}
 use Rattle.std.specs.Prelude.{slice_get}
 use Rattle.std.specs.List.{slice_index_or}
+use Rattle.std.specs.Int.Bits.{bit_xor, or_add_and, xor_add_and, xor_self}
 use Rattle.std.proofs.lemmas.Bool.{cases_lt}
+use Rattle.std.proofs.lemmas.Nat.{and_le_l, and_le_r}
 use Rattle.std.proofs.lemmas.Option.{same_Some, slice_get_within}
 use Rattle.grant_table.specs.Layouts.{first_place}
 use Rattle.scan_share.specs.Rows.{AreNeighbours, IsScanOf, IsSplit, ScanView, scan_words}
@@ -24,6 +26,39 @@ code_here loaded words place word lt word_is same = read_at loaded place 0 lt �
 
 pub code_differs : (loaded words : List ℕ) (place word : ℕ) → place < length loaded → slice_get words place ≡ Some word → slice_index_or loaded place 0 ≢ word → loaded ≢ words
 code_differs loaded words place word lt word_is ne same = ne (same_Some (slice_index_or loaded place 0) word (sym (read_at loaded place 0 lt) ∙ ap (λ xs. slice_get xs place) same ∙ word_is))
+
+-- ---- codes at many places
+
+-- words that differ have bits in which they do
+pub none_differ : (a b : ℕ) → bit_xor a b ≡ 0 → a ≡ b
+none_differ a b none = omega (arith, none, xor_add_and a b, and_le_l a b, and_le_r a b)
+
+no_bits : (a b : ℕ) → bit_or a b ≡ 0 → (a ≡ 0) × (b ≡ 0)
+no_bits a b none = (omega (arith, none, or_add_and a b, and_le_r a b), omega (arith, none, or_add_and a b, and_le_l a b))
+
+-- the bits in which codes differ from those of a scan, from one place up to another
+pub record Differing (bits : ℕ) (loaded words : List ℕ) (from to : ℕ) : Type 0 where
+  pub same : bits ≡ 0 → (place : ℕ) → from ≤ place → place < to → slice_get loaded place ≡ slice_get words place
+  pub differ : bits ≢ 0 → loaded ≢ words
+
+pub none_differing : (loaded words : List ℕ) (from to : ℕ) → to ≤ from → Differing 0 loaded words from to
+none_differing loaded words from to none = record {
+  same = λ zero_bits place low lt. absurd (omega (arith, none, low, lt));
+  differ = λ some same. some refl;
+}
+
+pub more_differing : (bits : ℕ) (loaded words : List ℕ) (from at next word : ℕ) → at < length loaded → next ≡ at + 1 → slice_get words at ≡ Some word → Differing bits loaded words from at
+    → Differing (bit_or bits (bit_xor (slice_index_or loaded at 0) word)) loaded words from next
+more_differing bits loaded words from at next word lt next_is word_is was = record {
+  same = λ none place low less.
+      let both = no_bits bits (bit_xor (slice_index_or loaded at 0) word) none in
+      one_more loaded words from at (was.same both.0) (code_here loaded words at word lt word_is (none_differ (slice_index_or loaded at 0) word both.1)) place low (omega (arith, less, next_is));
+  differ = by bits was.differ;
+}
+  where
+    by : (n : ℕ) → (n ≢ 0 → loaded ≢ words) → bit_or n (bit_xor (slice_index_or loaded at 0) word) ≢ 0 → loaded ≢ words
+    by zero differ some = code_differs loaded words at word lt word_is (λ same. some (ap (λ w. bit_or 0 (bit_xor w word)) same ∙ ap (bit_or 0) (xor_self word)))
+    by (suc n) differ some = differ (λ none. absurd (omega (arith, none)))
 
 -- ---- the group's own codes
 

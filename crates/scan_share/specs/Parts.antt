@@ -1,5 +1,5 @@
 -- The parts of a scan of the shared chain, over a cable that may tell its chain.
-use Rattle.std.specs.Prelude.{ℕ, ◌+◌, ◌≡◌, Bool, true, false, List, [], ◌∷◌, ◌++◌, length}
+use Rattle.std.specs.Prelude.{ℕ, ◌+◌, ◌≡◌, ◌≢◌, Bool, true, false, List, [], ◌∷◌, ◌++◌, length}
 use Rattle.std.specs.declared.option.Option.{Option}
 use Rattle.base_types.specs.Tellings.{Both, TakesFirst, Told}
 use Rattle.chain_model.specs.Chains.{ChainState}
@@ -8,7 +8,7 @@ use Rattle.grant_table.specs.Layouts.{LayoutShape}
 use Rattle.scan_walks.specs.Walks.{with_tms, calls_for}
 use Rattle.scan_share.specs.Scans.{Captures, IsReadOut, scan_length}
 use Rattle.scan_share.specs.Laws.{own_bits}
-use Rattle.scan_share.specs.Views.{IsLoadedFor, OpenWith}
+use Rattle.scan_share.specs.Views.{IsLoadedFor, OpenWith, RestsWith}
 use Rattle.scan_share.specs.Walks.{load_walk, capture_walk, shift_out}
 
 -- the chain, where it is told, made these cycles in so many calls
@@ -65,3 +65,10 @@ pub record IsOpenUnder (layout : LayoutShape) (grant : ℕ) (words : List ℕ) (
   pub loaded : List ℕ
   pub loaded_is : IsLoadedFor layout grant words loaded
   pub open_is : Told chain (OpenWith loaded)
+
+-- these codes are to be loaded into a chain at rest, and are loaded already, or are not
+pub record IsReady (is_loaded : Bool) (loaded : List ℕ) (chain : Option ChainState) : Type 0 where
+  pub before : List ℕ
+  pub rests : Told chain (RestsWith before)
+  pub same : is_loaded ≡ true → before ≡ loaded
+  pub differ : is_loaded ≡ false → before ≢ loaded

@@ -1,15 +1,13 @@
 // The instruction codes of a chain's devices, as words.
-ghost use Rattle.std.specs.Prelude.{◌≡◌, ◌≢◌, ◌≤◌, ◌<◌, ◌^◌, nat_lt, length, map, replicate, true, false};
+ghost use Rattle.std.specs.Prelude.{◌≡◌, ◌≤◌, ◌<◌, ◌^◌, nat_lt, length, map, replicate, true, false};
 ghost use Rattle.std.specs.List.{All};
 ghost use Rattle.scan_bits.specs.Words.{number_of};
 ghost use Rattle.grant_table.specs.Kept.{AllParts};
 ghost use Rattle.scan_share.specs.PrivateChains.{entries_at};
 ghost use Rattle.grant_table.specs.Layouts.{group_of};
 ghost use Rattle.scan_share.specs.Codes.{AreCodes, reset_word};
-ghost use Rattle.scan_share.specs.Views.{IsLoadedFor};
 
 use crate::members::members;
-use crate::scan::Scan;
 use arrayvec::ArrayVec;
 use grant_table::Layout;
 use part_model::Part;
@@ -35,23 +33,6 @@ pub fn reset_codes(layout: &Layout) -> Codes
         codes.push(layout.part(place).reset_code());
     }
     codes
-}
-
-/// Makes the codes that are loaded those of a scan for a grant. Says whether they were so already.
-pub fn load(layout: &Layout, grant: usize, codes: &[u64], loaded: &mut Codes) -> bool
-    requires grant { grant < length layout.now.grants }
-    requires codes { AreCodes (entries_at layout.now.parts (group_of layout.now.grants grant)) codes.now }
-    ensures is { IsLoadedFor layout.now grant codes.now loaded.new.items }
-    ensures same { result ≡ true → loaded.old.items ≡ loaded.new.items }
-    ensures differ { result ≡ false → loaded.old.items ≢ loaded.new.items }
-{
-    let group = members(layout, grant);
-    let scan = Scan::new(layout, group, codes);
-    if scan.is_loaded(loaded) {
-        return true;
-    }
-    scan.load(loaded);
-    false
 }
 
 // Whether a word is a code of a device type: it has no bits above its instruction register's.

@@ -10,11 +10,11 @@ ghost use Rattle.scan_share.specs.Scans.{Captures, IsReadOut, Updates, IsWhole, 
 ghost use Rattle.scan_share.specs.Written.{written};
 ghost use Rattle.scan_share.specs.Codes.{AreCodes};
 ghost use Rattle.scan_share.specs.Laws.{own_bits};
-ghost use Rattle.scan_share.specs.Parts.{IsOpenUnder};
+ghost use Rattle.scan_share.specs.Parts.{IsOpenUnder, IsReady};
 ghost use Rattle.scan_share.specs.Views.{AsksAtMost, IsLoadedFor, OpenWith, RestsWith, codes_for, own_width, capture_calls, update_calls};
 
 use crate::code_bits::CodeBits;
-use crate::codes::{Codes, load};
+use crate::codes::Codes;
 use crate::members::members;
 use crate::neighbours::{Neighbours, are_neighbours};
 use crate::own_bits::OwnBits;
@@ -30,13 +30,14 @@ use scan_bits::Bits;
 use scan_walks::{BitSink, BitSource};
 
 /// Captures for a grant whose registers have so many bits, from Run-Test/Idle to Pause-DR, and hands the bits read out to a sink. The
-/// codes that are loaded are then those of the scan.
+/// codes of the scan are loaded before, unless they are loaded already.
 pub fn capture_to<'a, C: Cable, R: ScanRuns>(
     cable: &mut C,
     layout: &Layout,
     grant: usize,
     codes: &[u64],
-    loaded: &mut Codes,
+    loaded: &[u64],
+    is_loaded: bool,
     own: usize,
     sink: &mut OwnBits<'a, R>,
 ) -> Result<(), CableFault>
@@ -48,12 +49,12 @@ pub fn capture_to<'a, C: Cable, R: ScanRuns>(
     requires kept { (out : List Bool) → length out ≡ scan_length layout.now (group_of layout.now.grants grant) (codes_for layout.now grant codes.now) → ⟦<OwnBits<'a, R> as BitSink>⟧.holds sink.old out ≡ own_bits layout.now (group_of layout.now.grants grant) (codes_for layout.now grant codes.now) out }
     requires whole { Told (C.chain cable.old) (IsWhole layout.now) }
     requires devices { Told (C.chain cable.old) HasDevice }
-    requires rests { Told (C.chain cable.old) (RestsWith loaded.old.items) }
+    requires loaded { IsLoadedFor layout.now grant codes.now loaded.now }
+    requires ready { IsReady is_loaded loaded.now (C.chain cable.old) }
     ensures captured { OnOk result (Both (C.chain cable.old) (C.chain cable.new) (Captures layout.now (group_of layout.now.grants grant) (codes_for layout.now grant codes.now) sink.new.into.now.bits)) }
     ensures whole { OnOk result (Told (C.chain cable.new) (IsWhole layout.now)) }
     ensures devices { OnOk result (Told (C.chain cable.new) HasDevice) }
-    ensures loaded { IsLoadedFor layout.now grant codes.now loaded.new.items }
-    ensures open { OnOk result (Told (C.chain cable.new) (OpenWith loaded.new.items)) }
+    ensures open { OnOk result (Told (C.chain cable.new) (OpenWith loaded.now)) }
     ensures asked { OnOk result (Both (C.chain cable.old) (C.chain cable.new) (AsksAtMost (capture_calls layout.now grant codes.now))) }
     ensures read { OnOk result (Both (C.ahead cable.old) (C.ahead cable.new) (λ before after. IsReadOut layout.now (group_of layout.now.grants grant) (codes_for layout.now grant codes.now) before after sink.new.into.now.bits)) }
     ensures length { OnOk result (length sink.new.into.now.bits ≡ own_width layout.now grant codes.now) }
@@ -64,7 +65,6 @@ pub fn capture_to<'a, C: Cable, R: ScanRuns>(
     ensures cause { HasCause (C.fault_count cable.old) (C.fault_count cable.new) result }
 {
     let count = scan_length(layout, grant, codes, own);
-    let is_loaded = load(layout, grant, codes, loaded);
     let mut source = CodeBits::new(layout, loaded);
     scan_out(
         cable,
@@ -112,16 +112,22 @@ pub fn capture_for<C: Cable>(
     into.clear();
     if are_neighbours(group) {
         let own = scan.own_length();
+        let is_loaded = scan.load_neighbours(loaded);
         let mut runs = Neighbours::new(&scan, own);
         let mut sink = OwnBits::new(&mut runs, into);
-        return capture_to(cable, layout, grant, codes, loaded, own, &mut sink);
+        return capture_to(
+            cable, layout, grant, codes, loaded, is_loaded, own, &mut sink,
+        );
     }
     let mut widths = ArrayVec::new();
     scan.put_widths(&mut widths);
     let own = total(&widths);
+    let is_loaded = scan.load(loaded);
     let mut runs = Runs::new(&scan, &widths);
     let mut sink = OwnBits::new(&mut runs, into);
-    capture_to(cable, layout, grant, codes, loaded, own, &mut sink)
+    capture_to(
+        cable, layout, grant, codes, loaded, is_loaded, own, &mut sink,
+    )
 }
 
 /// Updates a grant's registers from a source of all bits of the scan, from Pause-DR to Run-Test/Idle.

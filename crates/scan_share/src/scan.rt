@@ -7,7 +7,6 @@ ghost use Rattle.scan_share.specs.Written.{group_widths};
 ghost use Rattle.scan_share.specs.Rows.{AreNeighbours, IsScanOf, IsSplit, own_codes, scan_words};
 
 use crate::codes::{Codes, bypass_code};
-use crate::neighbours::are_neighbours;
 use crate::scan_length::{Widths, own_length, put_widths};
 use grant_table::Layout;
 use std::marker::Model;
@@ -85,12 +84,14 @@ impl<'a> Scan<'a> {
         (bypass_code(self.layout.part(place)), own)
     }
 
-    // Whether these are the codes of all devices during the scan, as many as there are.
+    // Whether these are the codes of all devices during the scan.
     fn each_is_loaded(&self, loaded: &[u64]) -> bool
-        requires { length loaded.now ≡ length self.now.layout.parts }
         ensures same { result ≡ true → loaded.now ≡ scan_words self.now }
         ensures differ { result ≡ false → loaded.now ≢ scan_words self.now }
     {
+        if loaded.len() != self.devices() {
+            return false;
+        }
         let mut own = 0;
         for place in 0..loaded.len() {
             let (code, next) = self.code(place, own);
@@ -129,22 +130,22 @@ impl<'a> Scan<'a> {
     {
         let _devices = self.devices();
         let codes = self.codes;
+        let mut differing = 0;
         for i in 0..codes.len() {
-            if loaded[first + i] != codes[i] {
-                return false;
-            }
+            differing |= loaded[first + i] ^ codes[i];
         }
-        true
+        differing == 0
     }
 
     // The same for a group of neighbours.
     fn neighbours_are_loaded(&self, loaded: &[u64]) -> bool
-        requires long { length loaded.now ≡ length self.now.layout.parts }
         requires neighbours { AreNeighbours self.now.group }
         ensures same { result ≡ true → loaded.now ≡ scan_words self.now }
         ensures differ { result ≡ false → loaded.now ≢ scan_words self.now }
     {
-        let _devices = self.devices();
+        if loaded.len() != self.devices() {
+            return false;
+        }
         let first = self.group[0];
         let behind = first + self.group.len();
         if !self.own_are_loaded(loaded, first) {
@@ -156,22 +157,9 @@ impl<'a> Scan<'a> {
         self.are_bypassed(loaded, behind, loaded.len())
     }
 
-    /// Whether these are the codes of all devices during the scan.
-    pub fn is_loaded(&self, loaded: &[u64]) -> bool
-        ensures same { result ≡ true → loaded.now ≡ scan_words self.now }
-        ensures differ { result ≡ false → loaded.now ≢ scan_words self.now }
-    {
-        if loaded.len() != self.devices() {
-            return false;
-        }
-        if are_neighbours(self.group) {
-            return self.neighbours_are_loaded(loaded);
-        }
-        self.each_is_loaded(loaded)
-    }
-
-    /// Makes these the codes of all devices during the scan.
-    pub fn load(&self, loaded: &mut Codes)
+    // Makes these the codes of all devices during the scan.
+    #[inline(never)]
+    fn put_codes(&self, loaded: &mut Codes)
         ensures { loaded.new.items ≡ scan_words self.now }
     {
         loaded.clear();
@@ -181,6 +169,33 @@ impl<'a> Scan<'a> {
             loaded.push(code);
             own = next;
         }
+    }
+
+    /// Makes these the codes of all devices during the scan. Says whether they were so already.
+    pub fn load(&self, loaded: &mut Codes) -> bool
+        ensures is { loaded.new.items ≡ scan_words self.now }
+        ensures same { result ≡ true → loaded.old.items ≡ loaded.new.items }
+        ensures differ { result ≡ false → loaded.old.items ≢ loaded.new.items }
+    {
+        if self.each_is_loaded(loaded) {
+            return true;
+        }
+        self.put_codes(loaded);
+        false
+    }
+
+    /// The same for a group of neighbours.
+    pub fn load_neighbours(&self, loaded: &mut Codes) -> bool
+        requires neighbours { AreNeighbours self.now.group }
+        ensures is { loaded.new.items ≡ scan_words self.now }
+        ensures same { result ≡ true → loaded.old.items ≡ loaded.new.items }
+        ensures differ { result ≡ false → loaded.old.items ≢ loaded.new.items }
+    {
+        if self.neighbours_are_loaded(loaded) {
+            return true;
+        }
+        self.put_codes(loaded);
+        false
     }
 
     /// Makes these widths how many bits the registers have that the group's codes select.

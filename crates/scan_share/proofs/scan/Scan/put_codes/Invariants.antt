@@ -1,6 +1,6 @@
 use Rattle.scan_share.specs.Rows.{IsSplit, scan_words}
 use Rattle.scan_share.proofs.Splits.{Begun}
-use Rattle.scan_share.proofs.scan.Scan.load.Given as goal
+use Rattle.scan_share.proofs.scan.Scan.put_codes.Given as goal
 
 abbrev pub invariant-loop-place : goal.invariant-loop-place
 invariant-loop-place l = record {

@@ -2,7 +2,7 @@ use Rattle.std.proofs.Common.{arith}
 use Rattle.scan_share.specs.Rows.{scan_words}
 use Rattle.scan_share.proofs.Places.{length-scan_words}
 use Rattle.scan_share.proofs.Splits.{more_begun, all_begun}
-use Rattle.scan_share.proofs.scan.Scan.load.Goals as goal
+use Rattle.scan_share.proofs.scan.Scan.put_codes.Goals as goal
 
 pub loop-place-preserved : goal.loop-place-preserved
 loop-place-preserved c = record {
