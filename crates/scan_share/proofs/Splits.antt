@@ -355,21 +355,15 @@ pub record OwnRun (group widths : List ℕ) (own place bits : ℕ) (all : List B
   pub row : IsRow group widths own place
   pub some : 1 ≤ bits
 
-pub first_run : (group widths : List ℕ) (own place bits : ℕ) → IsRow group widths own place → IsNext group own place
-    → OwnRun group widths (own - 1) (place - 1) (bits + slice_index_or widths (own - 1) 0) (marks_left group widths place bits)
-first_run group widths own place bits row next = record {
-  same = more_marks group widths own place bits row next;
-  row = before_row group widths own place row next;
-  some = let wide = row.wide _ _ (next_width group widths own place row next) in omega (arith, wide);
-}
-
-pub more_run : (group widths : List ℕ) (own place bits : ℕ) (all : List Bool) → OwnRun group widths own place bits all → IsNext group own place
-    → OwnRun group widths (own - 1) (place - 1) (bits + slice_index_or widths (own - 1) 0) all
-more_run group widths own place bits all run next = record {
-  same = more_marks group widths own place bits run.row next ∙ run.same;
-  row = before_row group widths own place run.row next;
-  some = omega (arith, run.some);
-}
+pub first_run : (group widths : List ℕ) (own place bits : ℕ) → IsRow group widths own place → IsNext group own place → bits ≡ 0
+    → OwnRun group widths (own - 1) (place - 1) (slice_index_or widths (own - 1) 0) (marks_left group widths place bits)
+first_run group widths own place bits row next used =
+    let all : slice_index_or widths (own - 1) 0 ≡ bits + slice_index_or widths (own - 1) 0 = omega (arith, used) in
+    record {
+      same = ap (marks_left group widths (place - 1)) all ∙ more_marks group widths own place bits row next;
+      row = before_row group widths own place row next;
+      some = let wide = row.wide _ _ (next_width group widths own place row next) in omega (arith, wide);
+    }
 
 -- the row of a scan
 pub scan_row : (scan : ScanView) (widths group : List ℕ) (count : ℕ) → IsScanOf scan.layout scan.group scan.codes → widths ≡ group_widths scan.layout scan.group (own_codes scan) → group ≡ scan.group

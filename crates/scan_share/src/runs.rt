@@ -75,35 +75,8 @@ fn end_of(group: &[usize], own: usize) -> usize
     group[own - 1] + 1
 }
 
-// Whether a run of the group's own goes on with the last of the devices that are left: it is of the group, and the run has fewer bits
-// than a word.
-fn goes_on(group: &[usize], run: Stand) -> bool
-    requires within { run.own ≤ length group.now }
-    requires low { (place : _) → slice_get group.now (run.own - 1) ≡ Some place → place < 32 }
-    ensures few { result ≡ true → run.bits < 64 }
-    ensures next { result ≡ true → IsNext group.now run.own run.place }
-{
-    run.bits < 64 && run.own > 0 && end_of(group, run.own) == run.place
-}
-
-// The run with the bits of the last of the devices that are left, which is of the group.
-fn with_next(widths: &[u32], stand: Stand) -> Stand
-    requires own { (1 ≤ stand.own) × (stand.own ≤ length widths.now) }
-    requires place { 1 ≤ stand.place }
-    requires few { stand.bits < 64 }
-    ensures { result ≡ record { place = stand.place - 1; own = stand.own - 1; bits = stand.bits + slice_index_or widths.now (stand.own - 1) 0 } }
-{
-    let own = stand.own - 1;
-    Stand {
-        place: stand.place - 1,
-        own,
-        bits: stand.bits + widths[own] as usize,
-    }
-}
-
-// Behind the run of the last of the devices that are left, which is of the group, and of those of the group right before it, until there
-// are the bits of a word.
-fn own_run(group: &[usize], widths: &[u32], stand: Stand) -> Stand
+// Behind the last of the devices that are left, which is of the group: its bits are left before those of the others.
+fn own_entered(group: &[usize], widths: &[u32], stand: Stand) -> Stand
     requires row { IsRow group.now widths.now stand.own stand.place }
     requires next { IsNext group.now stand.own stand.place }
     requires used { stand.bits ≡ 0 }
@@ -111,15 +84,17 @@ fn own_run(group: &[usize], widths: &[u32], stand: Stand) -> Stand
     ensures row { IsRow group.now widths.now result.own result.place }
     ensures some { 1 ≤ result.bits }
 {
-    let mut run = with_next(widths, stand);
-    while goes_on(group, run) {
-        run = with_next(widths, run);
+    let own = stand.own - 1;
+    Stand {
+        place: stand.place - 1,
+        own,
+        bits: widths[own] as usize,
     }
-    run
 }
 
-// How many bits of other devices come next, at most `most` of them, and where they are past. Where they are fewer, the bits of the
-// group's own that follow are entered.
+// How many bits of other devices come next, at most `most` of them, and where they are past. Where they are fewer, the device of the
+// group that follows is entered.
+#[inline(always)]
 fn entered(group: &[usize], widths: &[u32], stand: Stand, most: u32) -> (u32, Stand)
     requires row { IsRow group.now widths.now stand.own stand.place }
     requires some { 1 ≤ most }
@@ -145,7 +120,7 @@ fn entered(group: &[usize], widths: &[u32], stand: Stand, most: u32) -> (u32, St
     if stand.own == 0 {
         return (others as u32, stand);
     }
-    (others as u32, own_run(group, widths, stand))
+    (others as u32, own_entered(group, widths, stand))
 }
 
 impl<'a> Runs<'a> {
@@ -173,6 +148,7 @@ impl<'a> Runs<'a> {
 impl<'a> ScanRuns for Runs<'a> {
     ghost marks = { λ r. r };
 
+    #[inline(always)]
     fn next(&mut self, most: u32) -> Run {
         let (others, stand) = entered(self.group, self.widths, self.stand, most);
         let own = stand.bits.min((most - others) as usize);

@@ -20,15 +20,15 @@ returns-then-stand-eq0-clause-same c =
     (record { none = c.end_of-end.ensures.none; some = c.end_of-end.ensures.some; bound = c.end_of-end.ensures.bound }) (omega arith)
     (omega (arith, end_low c.args.group.now c.args.stand.own c.args.stand.place c.end_of-end.result c.requires.row.split c.end_of-end.ensures.none c.end_of-end.ensures.some c.end_of-end.ensures.bound)) (omega (arith, c.if-stand-gt0.false))
 
-pub own_run-requires-clause-row : goal.own_run-requires-clause-row
-own_run-requires-clause-row c =
+pub own_entered-requires-clause-row : goal.own_entered-requires-clause-row
+own_entered-requires-clause-row c =
     passed_row c.args.group.now c.args.widths.now c.args.stand.own c.args.stand.place c.end_of-end.result c.end_of-end.result c.requires.row
     (record { none = c.end_of-end.ensures.none; some = c.end_of-end.ensures.some; bound = c.end_of-end.ensures.bound }) (omega arith)
     (end_low c.args.group.now c.args.stand.own c.args.stand.place c.end_of-end.result c.requires.row.split c.end_of-end.ensures.none c.end_of-end.ensures.some c.end_of-end.ensures.bound)
 
 pub returns-clause-same : goal.returns-clause-same
 returns-clause-same c =
-    ap (λ q. replicate (c.args.stand.place - c.end_of-end.result) false ++ q) c.own_run.ensures.same
+    ap (λ q. replicate (c.args.stand.place - c.end_of-end.result) false ++ q) c.own_entered.ensures.same
     ∙ passed_marks c.args.group.now c.args.widths.now c.args.stand.own c.args.stand.place c.end_of-end.result c.end_of-end.result (c.args.stand.place - c.end_of-end.result) c.args.stand.bits c.requires.row
     (record { none = c.end_of-end.ensures.none; some = c.end_of-end.ensures.some; bound = c.end_of-end.ensures.bound }) (omega arith)
     (omega (arith, end_low c.args.group.now c.args.stand.own c.args.stand.place c.end_of-end.result c.requires.row.split c.end_of-end.ensures.none c.end_of-end.ensures.some c.end_of-end.ensures.bound)) (omega (arith, c.if-stand-gt0.false))
