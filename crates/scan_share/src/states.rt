@@ -124,7 +124,7 @@ impl<C: Cable> Parked<C> {
     /// `Broken` comes only where the cable's count of faults rose in the call.
     #[inline(always)]
     pub fn capture(
-        self,
+        mut self,
         layout: &Layout,
         grant: usize,
         codes: &[u64],
@@ -146,15 +146,17 @@ impl<C: Cable> Parked<C> {
         ensures trst { C.trst (open_or_broken result) ≡ C.trst self.cable }
         ensures cause { HasCause (C.fault_count self.cable) (C.fault_count (open_or_broken result)) result }
     {
-        let Parked { mut line } = self;
-        match capture_for(
-            &mut line.cable,
+        // The line is used where it lies, and moved but once.
+        let captured = capture_for(
+            &mut self.line.cable,
             layout,
             grant,
             codes,
-            &mut line.loaded,
+            &mut self.line.loaded,
             into,
-        ) {
+        );
+        let Parked { line } = self;
+        match captured {
             Ok(()) => {}
             Err(_) => return Err(line.broken()),
         }
@@ -196,7 +198,7 @@ impl<C: Cable> Open<C> {
     /// `Broken` comes only where the cable's count of faults rose in the call.
     #[inline(always)]
     pub fn update(
-        self,
+        mut self,
         layout: &Layout,
         grant: usize,
         codes: &[u64],
@@ -214,12 +216,13 @@ impl<C: Cable> Open<C> {
         ensures trst { C.trst (parked_or_broken result) ≡ C.trst self.cable }
         ensures cause { HasCause (C.fault_count self.cable) (C.fault_count (parked_or_broken result)) result }
     {
+        let updated = update_for(&mut self.line.cable, layout, grant, codes, bits);
         let Open {
-            mut line,
+            line,
             grant: _,
             places: _,
         } = self;
-        match update_for(&mut line.cable, layout, grant, codes, bits) {
+        match updated {
             Ok(()) => {}
             Err(_) => return Err(line.broken()),
         }

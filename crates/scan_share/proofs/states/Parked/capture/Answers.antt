@@ -6,6 +6,6 @@ use Rattle.scan_share.proofs.states.Parked.capture.Goals as goal
 pub returns-clause-told : goal.returns-clause-told
 returns-clause-told g c = (
   refl,
-  own_loaded c.args.layout.now c.args.grant c.args.codes.now c.members.result.now c.capture_for.new.loaded.items (places_in c.mask_of.result)
-      c.members.ensures.parts c.members.ensures.is c.members.ensures.rising c.members.ensures.within c.members.ensures.few c.requires.codes c.capture_for.ensures.loaded c.mask_of.ensures,
+  own_loaded c.args.layout.now c.args.grant c.args.codes.now c.members.result.now c.capture_for-captured.new.loaded.items (places_in c.mask_of.result)
+      c.members.ensures.parts c.members.ensures.is c.members.ensures.rising c.members.ensures.within c.members.ensures.few c.requires.codes c.capture_for-captured.ensures.loaded c.mask_of.ensures,
 )
