@@ -20,10 +20,9 @@ use crate::neighbours::{Neighbours, are_neighbours};
 use crate::own_bits::OwnBits;
 use crate::runs::{Runs, ScanRuns};
 use crate::scan::Scan;
-use crate::scan_length::{scan_length, total};
+use crate::scan_length::scan_length;
 use crate::walks::{scan_out, write};
 use crate::write_bits::WriteBits;
-use arrayvec::ArrayVec;
 use chain_model::{Cable, CableFault};
 use grant_table::Layout;
 use scan_bits::Bits;
@@ -119,11 +118,10 @@ pub fn capture_for<C: Cable>(
             cable, layout, grant, codes, loaded, is_loaded, own, &mut sink,
         );
     }
-    let mut widths = ArrayVec::new();
-    scan.put_widths(&mut widths);
-    let own = total(&widths);
+    let mut widths = [0; 32];
+    let own = scan.put_widths(&mut widths);
     let is_loaded = scan.load(loaded);
-    let mut runs = Runs::new(&scan, &widths);
+    let mut runs = Runs::new(&scan, &widths[..group.len()]);
     let mut sink = OwnBits::new(&mut runs, into);
     capture_to(
         cable, layout, grant, codes, loaded, is_loaded, own, &mut sink,
@@ -189,8 +187,8 @@ pub fn update_for<C: Cable>(
         let mut source = WriteBits::new(Neighbours::new(&scan, bits.len()), bits);
         return update_from(cable, layout, grant, codes, bits, &mut source);
     }
-    let mut widths = ArrayVec::new();
+    let mut widths = [0; 32];
     scan.put_widths(&mut widths);
-    let mut source = WriteBits::new(Runs::new(&scan, &widths), bits);
+    let mut source = WriteBits::new(Runs::new(&scan, &widths[..group.len()]), bits);
     update_from(cable, layout, grant, codes, bits, &mut source)
 }

@@ -1,5 +1,5 @@
 // What a scan of the shared chain is for, device by device.
-ghost use Rattle.std.specs.Prelude.{ℕ, ◌≡◌, ◌≢◌, ◌≤◌, ◌<◌, ◌+◌, ◌*◌, ◌^◌, ◌==◌, length, slice_get, true, false, Some, None};
+ghost use Rattle.std.specs.Prelude.{ℕ, ◌≡◌, ◌≢◌, ◌≤◌, ◌<◌, ◌+◌, ◌*◌, ◌^◌, ◌==◌, length, slice_get, take, true, false, Some, None};
 ghost use Rattle.std.specs.List.{slice_index_or};
 ghost use Rattle.grant_table.specs.Layouts.{first_place};
 ghost use Rattle.scan_share.specs.Lengths.{own_length};
@@ -7,7 +7,7 @@ ghost use Rattle.scan_share.specs.Written.{group_widths};
 ghost use Rattle.scan_share.specs.Rows.{AreNeighbours, IsScanOf, IsSplit, own_codes, scan_words};
 
 use crate::codes::{Codes, bypass_code};
-use crate::scan_length::{Widths, own_length, put_widths};
+use crate::scan_length::{own_length, put_widths};
 use grant_table::Layout;
 use std::marker::Model;
 
@@ -198,12 +198,17 @@ impl<'a> Scan<'a> {
         false
     }
 
-    /// Makes these widths how many bits the registers have that the group's codes select.
-    pub fn put_widths(&self, widths: &mut Widths)
-        ensures { widths.new.items ≡ group_widths self.now.layout self.now.group (own_codes self.now) }
+    /// Makes the first of these widths how many bits the registers have that the group's codes select. Says how many they have together.
+    #[inline(always)]
+    pub fn put_widths(&self, widths: &mut [u32]) -> usize
+        requires room { 32 ≤ length widths.old }
+        ensures long { length widths.new ≡ length widths.old }
+        ensures widths { take (length self.now.group) widths.new ≡ group_widths self.now.layout self.now.group (own_codes self.now) }
+        ensures sum { result ≡ own_length self.now.layout self.now.group (own_codes self.now) }
+        ensures bound { result ≤ 32 * 2 ^ 32 }
     {
         let _devices = self.devices();
-        put_widths(self.layout, self.group, self.codes, widths);
+        put_widths(self.layout, self.group, self.codes, widths)
     }
 
     /// How many bits the registers have together that the group's codes select.

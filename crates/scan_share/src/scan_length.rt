@@ -1,5 +1,5 @@
 // How many bits a scan of data registers has.
-ghost use Rattle.std.specs.Prelude.{◌≡◌, ◌≤◌, ◌<◌, ◌*◌, ◌^◌, length};
+ghost use Rattle.std.specs.Prelude.{◌≡◌, ◌≤◌, ◌<◌, ◌*◌, ◌^◌, length, take};
 ghost use Rattle.std.specs.List.{All, sum_by};
 ghost use Rattle.scan_share.specs.PrivateChains.{entries_at};
 ghost use Rattle.scan_share.specs.Scans.{codes_of, scan_length};
@@ -12,23 +12,28 @@ ghost use Rattle.scan_share.specs.Written.{group_widths};
 
 use crate::members::members;
 use crate::scan::Scan;
-use arrayvec::ArrayVec;
 use grant_table::Layout;
 
-/// How many bits registers of devices have, from TDI on.
-pub type Widths = ArrayVec<u32, 32>;
-
-/// Makes these widths how many bits the registers of a group's devices have under these codes.
-pub fn put_widths(layout: &Layout, group: &[usize], codes: &[u64], widths: &mut Widths)
+/// Makes the first of these widths how many bits the registers of a group's devices have under these codes. Says how many they have
+/// together.
+#[inline(always)]
+pub fn put_widths(layout: &Layout, group: &[usize], codes: &[u64], widths: &mut [u32]) -> usize
     requires few { length group.now ≤ 32 }
     requires within { All (λ place. place < length layout.now.parts) group.now }
     requires coded { length codes.now ≡ length group.now }
-    ensures { widths.new.items ≡ group_widths layout.now group.now (codes_of (entries_at layout.now.parts group.now) codes.now) }
+    requires room { length group.now ≤ length widths.old }
+    ensures long { length widths.new ≡ length widths.old }
+    ensures widths { take (length group.now) widths.new ≡ group_widths layout.now group.now (codes_of (entries_at layout.now.parts group.now) codes.now) }
+    ensures sum { result ≡ sum_by (λ w. w) (group_widths layout.now group.now (codes_of (entries_at layout.now.parts group.now) codes.now)) }
+    ensures bound { result ≤ 32 * 2 ^ 32 }
 {
-    widths.clear();
+    let mut sum = 0;
     for i in 0..group.len() {
-        widths.push(layout.part(group[i]).selected_length(codes[i]));
+        let width = layout.part(group[i]).selected_length(codes[i]);
+        widths[i] = width;
+        sum += width as usize;
     }
+    sum
 }
 
 /// How many bits the registers of a group's devices have together under these codes.
@@ -43,19 +48,6 @@ pub fn own_length(layout: &Layout, group: &[usize], codes: &[u64]) -> usize
     let mut sum = 0;
     for i in 0..group.len() {
         sum += layout.part(group[i]).selected_length(codes[i]) as usize;
-    }
-    sum
-}
-
-/// How many bits there are together.
-pub fn total(widths: &[u32]) -> usize
-    requires few { length widths.now ≤ 32 }
-    ensures is { result ≡ sum_by (λ w. w) widths.now }
-    ensures bound { result ≤ 32 * 2 ^ 32 }
-{
-    let mut sum = 0;
-    for width in widths {
-        sum += *width as usize;
     }
     sum
 }
