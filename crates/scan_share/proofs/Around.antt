@@ -7,7 +7,7 @@ use Rattle.std.proofs.lemmas.Bool.{cases_lt}
 use Rattle.std.proofs.lemmas.Nat.{and_le_l, and_le_r}
 use Rattle.std.proofs.lemmas.Option.{same_Some, slice_get_within}
 use Rattle.grant_table.specs.Layouts.{first_place}
-use Rattle.scan_share.specs.Rows.{AreNeighbours, IsScanOf, IsSplit, ScanView, scan_words}
+use Rattle.scan_share.specs.Rows.{AreNeighbours, IsScanOf, ScanView, scan_words}
 use Rattle.scan_share.proofs.Lookups.{entry_past, some_none}
 use Rattle.scan_share.proofs.Places.{all_at, read_at}
 use Rattle.scan_share.proofs.Splits.{all_same, none_here, own_word, scan_coded, split_last}

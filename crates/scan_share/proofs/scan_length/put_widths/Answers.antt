@@ -1,4 +1,4 @@
-use Rattle.std.proofs.Common.{arith, ap, drop, refl, slice_set, sym, take, ◌∙◌, Some}
+use Rattle.std.proofs.Common.{arith, ap, refl, sym, take, ◌∙◌, Some}
 use Rattle.std.proofs.lemmas.List.{take_more_set}
 use Rattle.scan_share.specs.PrivateChains.{entries_at}
 use Rattle.scan_share.specs.Scans.{codes_of, widths_during}

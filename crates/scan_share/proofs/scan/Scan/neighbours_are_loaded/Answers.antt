@@ -1,4 +1,4 @@
-use Rattle.std.proofs.Common.{◌≡◌, ◌+◌, ap, arith, length, sym, ◌∙◌}
+use Rattle.std.proofs.Common.{◌+◌, ap, arith, length, sym, ◌∙◌}
 use Rattle.std.specs.List.{slice_index_or}
 use Rattle.scan_share.specs.Rows.{ScanView, scan_words}
 use Rattle.scan_share.proofs.Around.{all_around, none_before, none_behind}

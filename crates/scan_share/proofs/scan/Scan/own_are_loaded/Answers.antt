@@ -1,8 +1,8 @@
-use Rattle.std.proofs.Common.{◌≡◌, ◌<◌, ◌+◌, ℕ, nat_eq, true, ap, arith, length, sym, ◌∙◌, Some}
+use Rattle.std.proofs.Common.{◌≡◌, ◌+◌, ℕ, nat_eq, true, ap, arith, length, sym, ◌∙◌, Some}
 use Rattle.std.specs.List.{slice_index_or}
 use Rattle.std.proofs.lemmas.Bool.{eqb-true}
 use Rattle.scan_share.specs.Rows.{ScanView, scan_words}
-use Rattle.scan_share.proofs.Around.{Differing, none_differing, more_differing, own_below, own_code_at}
+use Rattle.scan_share.proofs.Around.{none_differing, more_differing, own_below, own_code_at}
 use Rattle.scan_share.proofs.Splits.{scan_coded}
 use Rattle.scan_share.proofs.scan.Scan.own_are_loaded.Goals as goal
 
