@@ -110,7 +110,7 @@ pub fn capture_for<C: Cable>(
     let scan = Scan::new(layout, group, codes);
     into.clear();
     if are_neighbours(group) {
-        let own = scan.own_length();
+        let own = scan.neighbours_length();
         let is_loaded = scan.load_neighbours(loaded);
         let mut runs = Neighbours::new(&scan, own);
         let mut sink = OwnBits::new(&mut runs, into);

@@ -7,7 +7,7 @@ ghost use Rattle.scan_share.specs.Written.{group_widths};
 ghost use Rattle.scan_share.specs.Rows.{AreNeighbours, IsScanOf, IsSplit, own_codes, scan_words};
 
 use crate::codes::{Codes, bypass_code};
-use crate::scan_length::{own_length, put_widths};
+use crate::scan_length::{neighbours_length, own_length, put_widths};
 use grant_table::Layout;
 use std::marker::Model;
 
@@ -219,5 +219,16 @@ impl<'a> Scan<'a> {
     {
         let _devices = self.devices();
         own_length(self.layout, self.group, self.codes)
+    }
+
+    /// The same for a group of neighbours.
+    #[inline(always)]
+    pub fn neighbours_length(&self) -> usize
+        requires neighbours { AreNeighbours self.now.group }
+        ensures is { result ≡ own_length self.now.layout self.now.group (own_codes self.now) }
+        ensures bound { result ≤ 32 * 2 ^ 32 }
+    {
+        let _devices = self.devices();
+        neighbours_length(self.layout, self.group, self.codes)
     }
 }

@@ -5,6 +5,7 @@ ghost use Rattle.scan_share.specs.PrivateChains.{entries_at};
 ghost use Rattle.scan_share.specs.Scans.{codes_of, scan_length};
 ghost use Rattle.scan_share.specs.Codes.{AreCodes};
 ghost use Rattle.scan_share.specs.Laws.{IsGroup};
+ghost use Rattle.scan_share.specs.Rows.{AreNeighbours};
 ghost use Rattle.scan_share.specs.Views.{codes_for, own_width};
 ghost use Rattle.grant_table.specs.Kept.{AllParts};
 ghost use Rattle.grant_table.specs.Layouts.{group_of, longest_of};
@@ -48,6 +49,24 @@ pub fn own_length(layout: &Layout, group: &[usize], codes: &[u64]) -> usize
     let mut sum = 0;
     for i in 0..group.len() {
         sum += layout.part(group[i]).selected_length(codes[i]) as usize;
+    }
+    sum
+}
+
+/// The same for a group of neighbours.
+#[inline(always)]
+pub fn neighbours_length(layout: &Layout, group: &[usize], codes: &[u64]) -> usize
+    requires few { length group.now ≤ 32 }
+    requires within { All (λ place. place < length layout.now.parts) group.now }
+    requires coded { length codes.now ≡ length group.now }
+    requires neighbours { AreNeighbours group.now }
+    ensures is { result ≡ sum_by (λ w. w) (group_widths layout.now group.now (codes_of (entries_at layout.now.parts group.now) codes.now)) }
+    ensures bound { result ≤ 32 * 2 ^ 32 }
+{
+    let first = group[0];
+    let mut sum = 0;
+    for i in 0..group.len() {
+        sum += layout.part(first + i).selected_length(codes[i]) as usize;
     }
     sum
 }
