@@ -16,6 +16,4 @@ mod sessions;
 #[cfg(test)]
 mod setups;
 #[cfg(test)]
-mod untold;
-#[cfg(test)]
 mod virtual_taps;
