@@ -4,3 +4,4 @@ pub mod Shapes
 pub mod FaultLaws
 pub mod Places
 pub mod Ports
+pub mod Ones

@@ -77,5 +77,5 @@ module _ (layout : LayoutShape) (is : IsLayout layout) (grant : ℕ) (group : Li
       let few : 0 + length group ≤ length layout.parts = rises_below 0 (length layout.parts) group (omega arith) group_rises group_within in
       (some_place group some, omega (arith, few, (some_devices layout is).1))
 
-pub total_within : (layout : LayoutShape) (sum : ℕ) → IsKept layout sum → sum ≤ 2048
-total_within layout sum kept = omega (arith, kept.total, total_few layout.parts kept.parts, (some_devices layout kept.is).1)
+pub total_within : (layout : LayoutShape) (sum : ℕ) (bypass : List ℕ) → IsKept layout sum bypass → sum ≤ 2048
+total_within layout sum bypass kept = omega (arith, kept.total, total_few layout.parts kept.parts, (some_devices layout kept.is).1)

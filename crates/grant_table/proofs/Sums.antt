@@ -15,7 +15,7 @@ use Rattle.grant_table.specs.Kept.{AllParts}
 
 -- ---- the lengths of one part
 
-few_bits : (part : DeviceType) → IsPart part → part.ir_length ≤ 64
+pub few_bits : (part : DeviceType) → IsPart part → part.ir_length ≤ 64
 few_bits part is =
     let first = first_none (code_refusal is.plan) _ is.accepted in
     subst (λ (p : DeviceType). p.ir_length ≤ 64) (sym is.made) (coded is.plan first.0).most

@@ -1,10 +1,11 @@
 -- Which devices of a scan chain are granted together, at which TCP port and by which protocol.
 -- The place of a device counts from 0, from TDI on.
-use Rattle.std.specs.Prelude.{ℕ, zero, suc, Bool, ◌==◌, List, [], ◌∷◌, slice_get, if◌then◌else◌}
+use Rattle.std.specs.Prelude.{ℕ, zero, suc, Bool, true, ◌==◌, List, [], ◌∷◌, replicate, slice_get, if◌then◌else◌}
 use Rattle.std.specs.Option.{option_map}
 use Rattle.std.specs.List.{sum_by, filter_map}
 use Rattle.std.specs.declared.option.Option.{Option}
 use Rattle.std.specs.declared.option.Option.TheVariants.{None, Some}
+use Rattle.scan_bits.specs.Words.{number_of}
 use Rattle.part_model.specs.declared.Net.{Net}
 use Rattle.part_model.specs.Parts.{DeviceType, longest}
 use Rattle.grant_table.specs.declared.Protocol.{Protocol}
@@ -24,6 +25,10 @@ pub record LayoutShape : Type 0 where
 -- the length of an instruction scan of the whole chain: the sum of INSTRUCTION_LENGTH over its devices
 abbrev pub ir_total : LayoutShape → ℕ
 ir_total layout = sum_by (λ part. part.ir_length) layout.parts
+
+-- the code of BYPASS as a word: a one for each bit of the instruction register
+abbrev pub bypass_word : DeviceType → ℕ
+bypass_word part = number_of (replicate part.ir_length true)
 
 -- the first place at which a test passes
 abbrev pub first_place : {X : Type 0} → (X → Bool) → List X → Option ℕ

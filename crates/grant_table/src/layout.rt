@@ -5,7 +5,7 @@ ghost use Rattle.std.specs.Option.{option_map};
 ghost use Rattle.part_model.specs.Parts.{longest};
 ghost use Rattle.part_model.specs.Plans.{IsPart};
 ghost use Rattle.grant_table.specs.Layouts as layouts;
-ghost use Rattle.grant_table.specs.Layouts.{group_of, longest_of, grant_at_port};
+ghost use Rattle.grant_table.specs.Layouts.{bypass_word, group_of, longest_of, grant_at_port};
 ghost use Rattle.grant_table.specs.Faults.{IsLayout, layout_of, shape_for};
 ghost use Rattle.grant_table.specs.Faults as faults;
 ghost use Rattle.grant_table.specs.Kept.{AllParts};
@@ -25,6 +25,7 @@ pub struct Layout {
     grants: Vec<KeptGrant>,
     nets: Vec<Net>,
     ir_total: usize,
+    bypass_codes: Vec<u64>,
 }
 
 impl Model for Layout {
@@ -35,7 +36,7 @@ impl Model for Layout {
 
     ghost view = { λ l. record { parts = l.parts.items; grants = l.grants.items; nets = l.nets.items } };
 
-    ghost invariant = { λ l. IsKept (record { parts = l.parts.items; grants = l.grants.items; nets = l.nets.items }) l.ir_total };
+    ghost invariant = { λ l. IsKept (record { parts = l.parts.items; grants = l.grants.items; nets = l.nets.items }) l.ir_total l.bypass_codes.items };
 }
 
 // The sum of the instruction lengths.
@@ -49,6 +50,24 @@ fn ir_sum(parts: &[Part]) -> usize
         sum += part.ir_len() as usize;
     }
     sum
+}
+
+/// The code of BYPASS: a one for each bit of the instruction register (IEEE 1149.1).
+pub fn bypass_code(part: &Part) -> u64
+    ensures { result ≡ bypass_word part.now }
+{
+    u64::MAX >> (64 - part.ir_len())
+}
+
+// The code of BYPASS of each part.
+fn bypass_codes(alloc: Global, parts: &[Part]) -> Result<Vec<u64>, AllocError>
+    ensures { IfOk result (λ codes. codes.items ≡ map bypass_word parts.now) }
+{
+    let mut codes = Vec::new(alloc);
+    for part in parts {
+        codes.push(bypass_code(part))?;
+    }
+    Ok(codes)
 }
 
 // The sum of the greatest register lengths of the parts at these places.
@@ -101,12 +120,14 @@ impl Layout {
         ensures { IfOk result (λ layout. layout ≡ layout_of parts.items grants.items nets.items) }
     {
         let ir_total = ir_sum(&parts);
+        let bypass_codes = bypass_codes(alloc, &parts)?;
         let grants = kept_grants(alloc, parts.len(), &grants)?;
         Ok(Layout {
             parts,
             grants,
             nets,
             ir_total,
+            bypass_codes,
         })
     }
 
@@ -172,6 +193,13 @@ impl Layout {
         ensures part { IsPart result.now }
     {
         &self.parts[place]
+    }
+
+    /// The code of BYPASS of each device, from TDI on.
+    pub fn bypass_codes(&self) -> &[u64]
+        ensures { result.now ≡ map bypass_word self.now.parts }
+    {
+        &self.bypass_codes
     }
 
     /// The most bits that a data register scan of a grant's devices can have: the sum of their greatest register lengths.

@@ -13,7 +13,7 @@ mod tests;
 
 pub use faults::{LayoutRefusal, MOST_DEVICES, MOST_GRANTS, MOST_NETS, layout_fault};
 pub use grant::Grant;
-pub use layout::Layout;
+pub use layout::{Layout, bypass_code};
 pub use part_model::Net;
 
 /// The protocol that a grant's clients speak: Xilinx Virtual Cable 1.0, or OpenOCD's remote_bitbang.

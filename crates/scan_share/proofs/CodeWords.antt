@@ -6,7 +6,6 @@ use Rattle.std.proofs.lemmas.List.{length-replicate}
 use Rattle.std.proofs.Math.Nat.{mod-eq_of_lt}
 use Rattle.scan_bits.specs.Words.{bits_of, number_of}
 use Rattle.scan_bits.proofs.WordLaws.{number_of-bits_of}
-use Rattle.part_model.proofs.ResetLaws.{all_ones_are, all_ones_below}
 use Rattle.scan_share.proofs.Lookups.{some_none}
 
 -- the words of the first parts are there
@@ -45,7 +44,3 @@ all_filled word done xs at filled le =
 -- a word of so many bits is the number of them
 pub number_small : (n value : ℕ) → value < 2 ^ n → number_of (bits_of n value) ≡ value
 number_small n value lt = number_of-bits_of n value ∙ mod-eq_of_lt {n = value} {m = 2 ^ n} lt
-
--- all ones
-pub ones_number : (count : ℕ) → count ≤ 64 → (2 ^ 64 - 1) / 2 ^ (64 - count) ≡ number_of (replicate count true)
-ones_number count le = sym (number_small count ((2 ^ 64 - 1) / 2 ^ (64 - count)) (all_ones_below count le)) ∙ ap number_of (all_ones_are count le)

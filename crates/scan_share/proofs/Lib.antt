@@ -38,3 +38,4 @@ pub mod Answered
 pub mod OwnLongest
 pub mod CodeTests
 pub mod PlaceMasks
+pub mod PutCodes

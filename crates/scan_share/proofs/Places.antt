@@ -10,7 +10,7 @@ use Rattle.scan_bits.specs.Registers.{joined}
 use Rattle.part_model.specs.Parts.{DeviceType, width}
 use Rattle.part_model.specs.Plans.{IsPart, code_refusal}
 use Rattle.part_model.proofs.ResetLaws.{coded, first_none}
-use Rattle.grant_table.specs.Layouts.{first_place}
+use Rattle.grant_table.specs.Layouts.{first_place, bypass_word}
 use Rattle.scan_share.specs.PrivateChains.{entries_at}
 use Rattle.scan_share.specs.Scans.{codes_of, code_during, codes_from, widths_during}
 use Rattle.scan_share.specs.Codes.{AreCodes}
@@ -18,11 +18,6 @@ use Rattle.scan_share.specs.Written.{stages_from, group_widths}
 use Rattle.scan_share.specs.Rows.{ScanView, IsScanOf, own_codes, scan_codes, scan_words, own_stages, marks_below}
 use Rattle.scan_share.proofs.Lookups.{placed, entry_at, entry_within, length-entries_at, code_or, code_during_is, codes_at, some_none}
 use Rattle.scan_share.proofs.CodeWords.{number_small}
-
-pub few_bits : (part : DeviceType) → IsPart part → part.ir_length ≤ 64
-few_bits part is =
-    let first = first_none (code_refusal is.plan) _ is.accepted in
-    subst (λ (p : DeviceType). p.ir_length ≤ 64) (sym is.made) (coded is.plan first.0).most
 
 -- ---- entries
 
@@ -119,7 +114,7 @@ own_code scan place own word part is p here w =
     ∙ ap (λ q. code_or q (own_codes scan) (replicate part.ir_length true)) here ∙ or_at (own_codes scan) own (bits_of part.ir_length word) (replicate part.ir_length true) at.code))
     ∙ ap Some (number_small part.ir_length word (code_below entries scan.codes own word part is.coded at.entry w))
 
-pub other_code : (scan : ScanView) (place word : ℕ) (part : DeviceType) → IsScanOf scan.layout scan.group scan.codes → slice_get scan.layout.parts place ≡ Some part
+other_code : (scan : ScanView) (place word : ℕ) (part : DeviceType) → IsScanOf scan.layout scan.group scan.codes → slice_get scan.layout.parts place ≡ Some part
     → first_place (λ other. other == place) scan.group ≡ None → word ≡ number_of (replicate part.ir_length true)
     → slice_get (scan_words scan) place ≡ Some word
 other_code scan place word part is p none word_is =
@@ -128,6 +123,15 @@ other_code scan place word part is p none word_is =
     ∙ ap Some (code_during_is scan.group (own_codes scan) place (replicate part.ir_length true) (own_size scan is)
     ∙ ap (λ q. code_or q (own_codes scan) (replicate part.ir_length true)) none))
     ∙ ap Some (sym word_is)
+
+-- the code of BYPASS in each other device
+pub other_word : (scan : ScanView) (place : ℕ) → IsScanOf scan.layout scan.group scan.codes → place < length scan.layout.parts → first_place (λ other. other == place) scan.group ≡ None
+    → slice_get (scan_words scan) place ≡ Some (slice_index_or (map bypass_word scan.layout.parts) place 0)
+other_word scan place is lt none =
+    let here = entry_within scan.layout.parts place lt in
+    let word : slice_index_or (map bypass_word scan.layout.parts) place 0 ≡ bypass_word here.0 =
+    or_at (map bypass_word scan.layout.parts) place (bypass_word here.0) 0 (slice_get-map bypass_word scan.layout.parts place ∙ ap (option_map bypass_word) here.1) in
+    other_code scan place (slice_index_or (map bypass_word scan.layout.parts) place 0) here.0 is here.1 none word
 
 pub length-scan_words : (scan : ScanView) → length (scan_words scan) ≡ length scan.layout.parts
 length-scan_words scan = length-map (scan_codes scan) number_of ∙ length-codes_from scan.group (own_codes scan) 0 scan.layout.parts

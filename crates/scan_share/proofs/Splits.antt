@@ -55,18 +55,6 @@ split_own group own place rises split here = record {
   above = λ i other le is. omega (arith, rises_more 0 group own i place other rises (omega (arith, le)) here is);
 }
 
--- none of the group stands here
-pub split_other : (group : List ℕ) (own place : ℕ) → RisesFrom 0 group → IsSplit group own place → first_place (λ other. other == place) group ≡ None → IsSplit group own (place + 1)
-split_other group own place rises split none = record {
-  below = λ i other lt is. omega (arith, split.below i other lt is);
-  above = λ i other le is. elim (cases_lt place other) [
-    | inl less ↦ omega (arith, less)
-    | inr more ↦
-        let same : other ≡ place = omega (arith, more, split.above i other le is) in
-        some_none i (sym (found group (rising_apart 0 group rises) i place (is ∙ ap Some same)) ∙ none)
-  ];
-}
-
 -- where the next of the group stands elsewhere, no other stands here
 pub none_here : (group : List ℕ) (own place : ℕ) → RisesFrom 0 group → IsSplit group own place → slice_get group own ≢ Some place → first_place (λ other. other == place) group ≡ None
 none_here group own place rises split apart = by (first_place (λ other. other == place) group) refl
@@ -87,11 +75,30 @@ none_here group own place rises split apart = by (first_place (λ other. other =
               ]
         ]
 
-pub not_next : (group : List ℕ) (own place : ℕ) → nat_eq (slice_index_or group own 0) place ≡ false → slice_get group own ≢ Some place
-not_next group own place differ here = absurd (let e : true ≡ false = sym (eq-eqb (slice_index_or group own 0) place (or_at group own place 0 here)) ∙ differ in cc)
+-- up to the next of the group
+pub split_until : (group : List ℕ) (own place next at : ℕ) → RisesFrom 0 group → IsSplit group own place → slice_get group own ≡ Some next → place ≤ at → at ≤ next → IsSplit group own at
+split_until group own place next at rises split here low le = record {
+  below = λ i other lt is. omega (arith, low, split.below i other lt is);
+  above = λ i other from is. elim (cases_lt own i) [
+    | inl later ↦ omega (arith, le, rises_more 0 group own i next other rises later here is)
+    | inr more ↦
+        let e : i ≡ own = omega (arith, from, more) in
+        let same : other ≡ next = same_Some other next (sym is ∙ ap (slice_get group) e ∙ here) in
+        omega (arith, le, same)
+  ];
+}
 
-pub past_next : (group : List ℕ) (own place : ℕ) → nat_lt own (length group) ≡ false → slice_get group own ≢ Some place
-past_next group own place past here = absurd (omega (arith, ltb-false own (length group) past, slice_get_within group own place here))
+pub none_until : (group : List ℕ) (own place next at : ℕ) → RisesFrom 0 group → IsSplit group own place → slice_get group own ≡ Some next → place ≤ at → at < next → first_place (λ other. other == at) group ≡ None
+none_until group own place next at rises split here low lt =
+    none_here group own at rises (split_until group own place next at rises split here low (omega (arith, lt)))
+    (λ same. let equal : next ≡ at = same_Some next at (sym here ∙ same) in absurd (omega (arith, equal, lt)))
+
+-- past the last of the group
+pub none_past : (group : List ℕ) (own place at : ℕ) → RisesFrom 0 group → IsSplit group own place → length group ≤ own → place ≤ at → first_place (λ other. other == at) group ≡ None
+none_past group own place at rises split past low =
+    none_here group own at rises
+    (record { below = λ i other lt is. omega (arith, low, split.below i other lt is); above = λ i other le is. absurd (omega (arith, le, past, slice_get_within group i other is)) })
+    (λ same. some_none at (sym same ∙ entry_past group own past))
 
 -- ---- the codes of a walk
 
@@ -100,7 +107,7 @@ scan_coded scan is =
     length-words (entries_at scan.layout.parts scan.group) scan.codes is.coded
     ∙ length-entries_at scan.layout.parts scan.group (λ g q e. all_at (λ k. k < length scan.layout.parts) scan.group is.within g q e)
 
-pub own_counted : (scan : ScanView) (own place : ℕ) → IsScanOf scan.layout scan.group scan.codes → slice_get scan.group own ≡ Some place → own < length scan.codes
+own_counted : (scan : ScanView) (own place : ℕ) → IsScanOf scan.layout scan.group scan.codes → slice_get scan.group own ≡ Some place → own < length scan.codes
 own_counted scan own place is here =
     omega (arith, slice_get_within scan.group own place here, scan_coded scan is)
 
@@ -133,9 +140,6 @@ own_back scan is = same_entries (entries_at (scan_words scan) scan.group) scan.c
 pub record Begun (done all : List ℕ) (at : ℕ) : Type 0 where
   pub is : done ++ drop at all ≡ all
   pub count : length done ≡ at
-
-pub none_begun : (all : List ℕ) → Begun [] all 0
-none_begun all = record { is = refl; count = refl }
 
 pub more_begun : (done all : List ℕ) (at x : ℕ) → Begun done all at → slice_get all at ≡ Some x → Begun (done ++ x ∷ []) all (at + 1)
 more_begun done all at x begun here = record {

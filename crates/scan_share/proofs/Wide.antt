@@ -144,12 +144,3 @@ instruction_some part is = (part_some part is).instruction
 
 pub width_some : (part : DeviceType) → IsPart part → (code : List Bool) → 1 ≤ width part code
 width_some part is code = let some = part_some part is in register_some part (selected part code) some.boundary some.named
-
-few_bits : (plan : PartAttributes) → plan_refusal plan ≡ None → (part_of plan).ir_length ≤ 64
-few_bits plan accepted =
-    let t = no_refusal (code_refusal plan) _ accepted in
-    let a = no_refusal (length_refusal plan) _ t.0 in
-    ltb-false 64 plan.ir_len (neither (nat_lt plan.ir_len 2) (nat_lt 64 plan.ir_len) (not_refused (nat_lt plan.ir_len 2 || nat_lt 64 plan.ir_len) 1 InstructionLength a.0)).1
-
-pub instruction_few : (part : DeviceType) → IsPart part → part.ir_length ≤ 64
-instruction_few part is = subst (λ p. p.ir_length ≤ 64) (sym is.made) (few_bits is.plan is.accepted)

@@ -1,26 +1,18 @@
 // The instruction codes of a chain's devices, as words.
-ghost use Rattle.std.specs.Prelude.{◌≡◌, ◌≤◌, ◌<◌, ◌^◌, nat_lt, length, map, replicate, true, false};
+ghost use Rattle.std.specs.Prelude.{◌≡◌, ◌≤◌, ◌<◌, ◌^◌, nat_lt, length, map, true};
 ghost use Rattle.std.specs.List.{All};
-ghost use Rattle.scan_bits.specs.Words.{number_of};
 ghost use Rattle.grant_table.specs.Kept.{AllParts};
 ghost use Rattle.scan_share.specs.PrivateChains.{entries_at};
 ghost use Rattle.grant_table.specs.Layouts.{group_of};
-ghost use Rattle.scan_share.specs.Codes.{AreCodes, reset_word};
+ghost use Rattle.scan_share.specs.Codes.{AreCodes, put_at, reset_word};
 
 use crate::members::members;
 use arrayvec::ArrayVec;
-use grant_table::Layout;
+use grant_table::{Layout, bypass_code};
 use part_model::Part;
 
 /// Instruction codes of devices, from TDI on, bit 0 nearest TDO.
 pub type Codes = ArrayVec<u64, 32>;
-
-// The code of all ones, which is BYPASS.
-pub fn bypass_code(part: &Part) -> u64
-    ensures { result ≡ number_of (replicate part.now.ir_length true) }
-{
-    u64::MAX >> (64 - part.ir_len())
-}
 
 // The codes that Test-Logic-Reset loads.
 pub fn reset_codes(layout: &Layout) -> Codes
@@ -66,6 +58,17 @@ pub fn are_codes(layout: &Layout, grant: usize, codes: &[u64]) -> bool
 {
     let group = members(layout, grant);
     group.len() == codes.len() && are_group_codes(layout, group, codes)
+}
+
+// Puts a group's own codes at its places among those of all devices.
+pub fn put_own(group: &[usize], own: &[u64], codes: &mut [u64])
+    requires within { All (λ place. place < length codes.old) group.now }
+    requires counted { length own.now ≡ length group.now }
+    ensures { codes.new ≡ put_at group.now own.now codes.old }
+{
+    for i in 0..group.len() {
+        codes[group[i]] = own[i];
+    }
 }
 
 // Those of the codes that stand at these places.

@@ -4,9 +4,9 @@ ghost use Rattle.std.specs.List.{slice_index_or};
 ghost use Rattle.grant_table.specs.Layouts.{first_place};
 ghost use Rattle.scan_share.specs.Lengths.{own_length};
 ghost use Rattle.scan_share.specs.Written.{group_widths};
-ghost use Rattle.scan_share.specs.Rows.{AreNeighbours, IsScanOf, IsSplit, own_codes, scan_words};
+ghost use Rattle.scan_share.specs.Rows.{AreNeighbours, IsScanOf, own_codes, scan_words};
 
-use crate::codes::{Codes, bypass_code};
+use crate::codes::{Codes, put_own};
 use crate::scan_length::{neighbours_length, own_length, put_widths};
 use grant_table::Layout;
 use std::marker::Model;
@@ -59,29 +59,21 @@ impl<'a> Scan<'a> {
         self.group
     }
 
-    // Whether a device of the group stands at a place, before which stand so many others of it.
-    fn is_own(&self, place: usize, own: usize) -> bool
-        requires { IsSplit self.now.group own place }
-        ensures own { result ≡ true → slice_get self.now.group own ≡ Some place }
-        ensures other { result ≡ false → first_place (λ other. other == place) self.now.group ≡ None }
-        ensures scan { IsScanOf self.now.layout self.now.group self.now.codes }
+    // Whether the devices from one place up to another, none of which is of the group, have the code of BYPASS among these.
+    fn are_bypassed(&self, loaded: &[u64], from: usize, to: usize) -> bool
+        requires long { length loaded.now ≡ length self.now.layout.parts }
+        requires within { to ≤ length loaded.now }
+        requires others { (place : ℕ) → from ≤ place → place < to → first_place (λ other. other == place) self.now.group ≡ None }
+        ensures same { result ≡ true → (place : ℕ) → from ≤ place → place < to → slice_get loaded.now place ≡ slice_get (scan_words self.now) place }
+        ensures differ { result ≡ false → loaded.now ≢ scan_words self.now }
     {
-        own < self.group.len() && self.group[own] == place
-    }
-
-    // The instruction code of the device at a place, before which stand so many devices of the group: its own one in the group, and all
-    // ones elsewhere. And how many of the group stand up to the place.
-    fn code(&self, place: usize, own: usize) -> (u64, usize)
-        requires within { place < length self.now.layout.parts }
-        requires split { IsSplit self.now.group own place }
-        ensures code { slice_get (scan_words self.now) place ≡ Some result.0 }
-        ensures split { IsSplit self.now.group result.1 (place + 1) }
-    {
-        if self.is_own(place, own) {
-            let codes = self.codes;
-            return (codes[own], own + 1);
+        let _devices = self.devices();
+        let bypass = self.layout.bypass_codes();
+        let mut differing = 0;
+        for place in from..to {
+            differing |= loaded[place] ^ bypass[place];
         }
-        (bypass_code(self.layout.part(place)), own)
+        differing == 0
     }
 
     // Whether these are the codes of all devices during the scan.
@@ -92,32 +84,16 @@ impl<'a> Scan<'a> {
         if loaded.len() != self.devices() {
             return false;
         }
-        let mut own = 0;
-        for place in 0..loaded.len() {
-            let (code, next) = self.code(place, own);
-            if loaded[place] != code {
+        let codes = self.codes;
+        let mut place = 0;
+        for own in 0..self.group.len() {
+            let next = self.group[own];
+            if loaded[next] != codes[own] || !self.are_bypassed(loaded, place, next) {
                 return false;
             }
-            own = next;
+            place = next + 1;
         }
-        true
-    }
-
-    // Whether the devices from one place up to another, none of which is of the group, have the code of BYPASS among these.
-    fn are_bypassed(&self, loaded: &[u64], from: usize, to: usize) -> bool
-        requires long { length loaded.now ≡ length self.now.layout.parts }
-        requires within { to ≤ length loaded.now }
-        requires others { (place : ℕ) → from ≤ place → place < to → first_place (λ other. other == place) self.now.group ≡ None }
-        ensures same { result ≡ true → (place : ℕ) → from ≤ place → place < to → slice_get loaded.now place ≡ slice_get (scan_words self.now) place }
-        ensures differ { result ≡ false → loaded.now ≢ scan_words self.now }
-    {
-        let _devices = self.devices();
-        for place in from..to {
-            if loaded[place] != bypass_code(self.layout.part(place)) {
-                return false;
-            }
-        }
-        true
+        self.are_bypassed(loaded, place, loaded.len())
     }
 
     // Whether the devices of the group, which are neighbours from this place on, have their codes among these.
@@ -162,12 +138,11 @@ impl<'a> Scan<'a> {
     fn put_codes(&self, loaded: &mut Codes)
         ensures { loaded.new.items ≡ scan_words self.now }
     {
+        let _devices = self.devices();
         loaded.clear();
-        let mut own = 0;
-        for place in 0..self.devices() {
-            let (code, next) = self.code(place, own);
-            loaded.push(code);
-            own = next;
+        match loaded.try_extend_from_slice(self.layout.bypass_codes()) {
+            Ok(()) => put_own(self.group, self.codes, loaded.as_mut_slice()),
+            Err(_) => unreachable!(),
         }
     }
 

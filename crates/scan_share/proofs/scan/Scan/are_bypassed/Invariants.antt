@@ -1,7 +1,6 @@
-use Rattle.std.proofs.Common.{◌≡◌, ◌≤◌, ◌<◌, ℕ}
-use Rattle.std.specs.Prelude.{slice_get}
 use Rattle.scan_share.specs.Rows.{scan_words}
+use Rattle.scan_share.proofs.Around.{Differing}
 use Rattle.scan_share.proofs.scan.Scan.are_bypassed.Given as goal
 
 abbrev pub invariant-loop-place : goal.invariant-loop-place
-invariant-loop-place l = (place : ℕ) → l.from ≤ place → place < l.place → slice_get l.loaded place ≡ slice_get (scan_words l.self) place
+invariant-loop-place l = Differing l.differing l.loaded (scan_words l.self) l.from l.place
