@@ -39,3 +39,4 @@ pub mod OwnLongest
 pub mod CodeTests
 pub mod PlaceMasks
 pub mod PutCodes
+pub mod Between

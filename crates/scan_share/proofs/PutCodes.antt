@@ -2,16 +2,16 @@
 use Rattle.std.proofs.Common.{◌≡◌, ◌≤◌, ◌<◌, ◌+◌, ◌==◌, ℕ, suc, List, [], ◌∷◌, length, map, drop, ap, sym, ◌∙◌, refl, arith, Some, None, inl, inr}
 use Rattle.std.specs.declared.option.Option.{Option}
 use Rattle.std.specs.Prelude.{slice_get, slice_set}
-use Rattle.std.specs.List.{slice_index_or}
+use Rattle.std.specs.List.{refill, slice_index_or}
 use Rattle.std.proofs.lemmas.Bool.{cases_lt}
-use Rattle.std.proofs.lemmas.List.{length-map}
+use Rattle.std.proofs.lemmas.List.{length-map, take_at}
 use Rattle.std.proofs.lemmas.Option.{slice_get_within}
 use Rattle.grant_table.specs.Layouts.{first_place, bypass_word}
 use Rattle.scan_share.specs.Codes.{put_at}
 use Rattle.scan_share.specs.Rows.{ScanView, IsScanOf, scan_words}
 use Rattle.scan_share.proofs.CodeWords.{drop_at, drop_past}
 use Rattle.scan_share.proofs.Groups.{rising_apart}
-use Rattle.scan_share.proofs.Lookups.{same_entries, placed, picked, put_at_at, entry_past}
+use Rattle.scan_share.proofs.Lookups.{same_entries, placed, picked, put_at_at, entry_past, length-slice_set}
 use Rattle.scan_share.proofs.Places.{all_at, read_at, other_word, length-scan_words}
 use Rattle.scan_share.proofs.Splits.{own_word, scan_coded}
 
@@ -24,6 +24,15 @@ put_more group own all i next place word next_is here code =
 
 pub put_all : (group own all : List ℕ) (i : ℕ) → length group ≤ i → put_at (drop i group) (drop i own) all ≡ all
 put_all group own all i le = ap (λ g. put_at g (drop i own) all) (drop_past group i le)
+
+-- all of a list is put in the place of another one
+pub refill_all : (xs ws : List ℕ) → length ws ≡ length xs → refill (length xs) xs ws ≡ ws
+refill_all xs ws long = take_at ws (drop (length ws) xs) (length xs) long
+
+pub length-put : (group own all : List ℕ) → length (put_at group own all) ≡ length all
+length-put [] own all = refl
+length-put (place ∷ group) [] all = refl
+length-put (place ∷ group) (word ∷ own) all = length-put group own (slice_set all place word) ∙ length-slice_set all place word
 
 pub words_put : (scan : ScanView) → IsScanOf scan.layout scan.group scan.codes → put_at scan.group scan.codes (map bypass_word scan.layout.parts) ≡ scan_words scan
 words_put scan is = same_entries (put_at scan.group scan.codes bypass) (scan_words scan) (λ i.
