@@ -20,6 +20,7 @@ pub mod MadeOf
 pub mod Whole
 pub mod Places
 pub mod Taking
+pub mod Packing
 pub mod Splits
 pub mod Adjacent
 pub mod Around

@@ -154,16 +154,16 @@ next_stage (first ∷ stages) zero stage is = same_Some first stage is ∙ sym (
 next_stage (first ∷ stages) (suc place) stage is =
     ap (λ q. q ++ first) (next_stage stages place stage is) ∙ append_assoc stage (joined (take place stages)) first
 
-pub some_left : (stages : List (List Bool)) (place : ℕ) (front : List Bool) → front ≡ [] → 1 ≤ length (front ++ joined (take place stages)) → 1 ≤ place
-some_left stages zero front none some = absurd (let e : 1 ≤ 0 = subst (λ (q : List Bool). 1 ≤ length (q ++ [])) none some in omega (arith, e))
-some_left stages (suc place) front none some = omega arith
+pub some_left : (stages : List (List Bool)) (place : ℕ) → 1 ≤ length (joined (take place stages)) → 1 ≤ place
+some_left stages zero some = absurd (omega (arith, some))
+some_left stages (suc place) some = omega arith
 
--- the stage before those that are done
-pub stage_before : (stages : List (List Bool)) (place : ℕ) (front stage : List Bool) → front ≡ [] → 1 ≤ length (front ++ joined (take place stages)) → slice_get stages (place - 1) ≡ Some stage
-    → stage ++ joined (take (place - 1) stages) ≡ front ++ joined (take place stages)
-stage_before stages place front stage none some is =
-    let e : suc (place - 1) ≡ place = omega (arith, some_left stages place front none some) in
-    sym (next_stage stages (place - 1) stage is) ∙ ap (λ k. joined (take k stages)) e ∙ ap (λ q. q ++ joined (take place stages)) (sym none)
+-- the last of the stages below a place comes first
+pub stage_before : (stages : List (List Bool)) (place : ℕ) (stage : List Bool) → 1 ≤ place → slice_get stages (place - 1) ≡ Some stage
+    → stage ++ joined (take (place - 1) stages) ≡ joined (take place stages)
+stage_before stages place stage some is =
+    let e : suc (place - 1) ≡ place = omega (arith, some) in
+    sym (next_stage stages (place - 1) stage is) ∙ ap (λ k. joined (take k stages)) e
 
 -- a part of a run
 pub run_split : (n count : ℕ) (own : Bool) (rest : List Bool) → n ≤ count → replicate n own ++ (replicate (count - n) own ++ rest) ≡ replicate count own ++ rest

@@ -1,12 +1,12 @@
 // The bits of an instruction scan.
-ghost use Rattle.std.specs.Prelude.{◌≡◌, ◌≤◌, ◌<◌, ◌++◌, ◌^◌, Some, length, slice_get, take};
-ghost use Rattle.scan_bits.specs.Words.{bits_of};
+ghost use Rattle.std.specs.Prelude.{◌≡◌, ◌≤◌, ◌<◌, ◌++◌, ◌^◌, Some, length, slice_get, take, drop};
+ghost use Rattle.scan_bits.specs.Words.{bits_of, number_of};
 ghost use Rattle.scan_bits.specs.Registers.{joined};
 ghost use Rattle.scan_share.specs.Codes.{AreCodes};
 ghost use Rattle.scan_share.specs.Scans.{codes_of};
 ghost use Rattle.scan_share.specs.Rows.{IsLoad};
 
-use crate::pieces::{Piece, Pieces, taken};
+use crate::pieces::Piece;
 use grant_table::Layout;
 use scan_walks::BitSource;
 use std::marker::Model;
@@ -51,19 +51,38 @@ fn code_at(layout: &Layout, codes: &[u64], place: usize) -> Piece
     }
 }
 
-// The code itself where it has a bit left, and else the code of the device before, with the place of its device.
-fn entered(layout: &Layout, codes: &[u64], place: usize, code: Piece) -> (usize, Piece)
+// The next `n` bits (1 to 64) of a scan, the first of them as the lowest bit of a word: what is left of a code, and the codes of the
+// devices below a place behind it. With the place below which the codes are left then, and what is left of the code at it.
+fn packed(
+    layout: &Layout,
+    codes: &[u64],
+    place: usize,
+    code: Piece,
+    n: u32,
+) -> (u64, usize, Piece)
+    requires some { 1 ≤ n }
+    requires few { n ≤ 64 }
+    requires fits { code.count ≤ n }
     requires load { IsLoad layout.now.parts codes.now place code.count code.bits }
-    requires left { 1 ≤ length (bits_of code.count code.bits ++ joined (take place (codes_of layout.now.parts codes.now))) }
-    ensures same { bits_of result.1.count result.1.bits ++ joined (take result.0 (codes_of layout.now.parts codes.now)) ≡ bits_of code.count code.bits ++ joined (take place (codes_of layout.now.parts codes.now)) }
-    ensures load { IsLoad layout.now.parts codes.now result.0 result.1.count result.1.bits }
-    ensures some { 1 ≤ result.1.count }
+    requires left { n ≤ length (bits_of code.count code.bits ++ joined (take place (codes_of layout.now.parts codes.now))) }
+    ensures word { result.0 ≡ number_of (take n (bits_of code.count code.bits ++ joined (take place (codes_of layout.now.parts codes.now)))) }
+    ensures left { bits_of result.2.count result.2.bits ++ joined (take result.1 (codes_of layout.now.parts codes.now)) ≡ drop n (bits_of code.count code.bits ++ joined (take place (codes_of layout.now.parts codes.now))) }
+    ensures load { IsLoad layout.now.parts codes.now result.1 result.2.count result.2.bits }
 {
-    if code.count > 0 {
-        return (place, code);
+    let mut word = code.bits;
+    let mut done = code.count;
+    let mut below = place;
+    while done < n {
+        below -= 1;
+        let next = code_at(layout, codes, below);
+        if next.count > n - done {
+            let (first, rest) = next.split(n - done);
+            return (word | first.bits << done, below, rest);
+        }
+        word |= next.bits << done;
+        done += next.count;
     }
-    let before = place - 1;
-    (before, code_at(layout, codes, before))
+    (word, below, Piece { count: 0, bits: 0 })
 }
 
 impl<'a> CodeBits<'a> {
@@ -81,22 +100,18 @@ impl<'a> CodeBits<'a> {
     }
 }
 
-impl<'a> Pieces for CodeBits<'a> {
-    ghost left = { λ c. c };
-
-    fn next(&mut self, most: u32) -> Piece {
-        let (place, code) = entered(self.layout, self.codes, self.place, self.code);
-        let (piece, rest) = code.split(most);
-        self.place = place;
-        self.code = rest;
-        piece
-    }
-}
-
 impl<'a> BitSource for CodeBits<'a> {
     ghost left = { λ c. c };
 
     fn take(&mut self, n: u32) -> u64 {
-        taken(self, n)
+        if self.code.count > n {
+            let (first, rest) = self.code.split(n);
+            self.code = rest;
+            return first.bits;
+        }
+        let (word, place, code) = packed(self.layout, self.codes, self.place, self.code, n);
+        self.place = place;
+        self.code = code;
+        word
     }
 }

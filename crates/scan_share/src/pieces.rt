@@ -19,29 +19,25 @@ fn low_bits(word: u64, count: u32) -> u64
 }
 
 impl Piece {
-    /// The first bits, at most `most` of them, and those behind them.
-    pub fn split(self, most: u32) -> (Piece, Piece)
-        requires some { 1 ≤ most }
-        requires left { 1 ≤ self.count }
+    /// The first `n` bits, and those behind them.
+    pub fn split(self, n: u32) -> (Piece, Piece)
+        requires some { 1 ≤ n }
+        requires more { n < self.count }
         requires few { self.count ≤ 64 }
         requires bound { self.bits < 2 ^ self.count }
-        ensures bits { bits_of result.0.count result.0.bits ++ bits_of result.1.count result.1.bits ≡ bits_of self.count self.bits }
-        ensures some { 1 ≤ result.0.count }
-        ensures most { result.0.count ≤ most }
-        ensures bound { result.0.bits < 2 ^ result.0.count }
+        ensures bits { bits_of n result.0.bits ++ bits_of result.1.count result.1.bits ≡ bits_of self.count self.bits }
+        ensures count { result.0.count ≡ n }
+        ensures bound { result.0.bits < 2 ^ n }
         ensures rest { result.1.bits < 2 ^ result.1.count }
         ensures few { result.1.count ≤ 64 }
     {
-        if self.count <= most {
-            return (self, Piece { count: 0, bits: 0 });
-        }
         let first = Piece {
-            count: most,
-            bits: low_bits(self.bits, most),
+            count: n,
+            bits: low_bits(self.bits, n),
         };
         let rest = Piece {
-            count: self.count - most,
-            bits: self.bits >> most,
+            count: self.count - n,
+            bits: self.bits >> n,
         };
         (first, rest)
     }

@@ -6,11 +6,11 @@ use Rattle.scan_share.proofs.pieces.Piece.split.Goals as goal
 
 pub returns-clause-bits : goal.returns-clause-bits
 returns-clause-bits c =
-    let whole = sym (bits_of-append c.args.most (c.args.self.count - c.args.most) c.args.self.bits) in
-    (λ i. (ap (bits_of c.args.most) c.low_bits.ensures ∙ bits_of-mod c.args.most c.args.self.bits) i ++ bits_of (c.args.self.count - c.args.most) (c.args.self.bits / 2 ^ c.args.most))
-    ∙ whole ∙ ap (λ (n : ℕ). bits_of n c.args.self.bits) (omega (arith, c.if-self-most.false))
+    let whole = sym (bits_of-append c.args.n (c.args.self.count - c.args.n) c.args.self.bits) in
+    (λ i. (ap (bits_of c.args.n) c.low_bits.ensures ∙ bits_of-mod c.args.n c.args.self.bits) i ++ bits_of (c.args.self.count - c.args.n) (c.args.self.bits / 2 ^ c.args.n))
+    ∙ whole ∙ ap (λ (m : ℕ). bits_of m c.args.self.bits) (omega (arith, c.requires.more))
 
 pub returns-clause-rest : goal.returns-clause-rest
 returns-clause-rest c =
-    shr_below c.args.self.bits (c.args.self.count - c.args.most) c.args.most
-    (subst (λ (n : ℕ). c.args.self.bits < 2 ^ n) (omega (arith, c.if-self-most.false)) c.requires.bound)
+    shr_below c.args.self.bits (c.args.self.count - c.args.n) c.args.n
+    (subst (λ (m : ℕ). c.args.self.bits < 2 ^ m) (omega (arith, c.requires.more)) c.requires.bound)
