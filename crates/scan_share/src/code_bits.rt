@@ -53,13 +53,7 @@ fn code_at(layout: &Layout, codes: &[u64], place: usize) -> Piece
 
 // The next `n` bits (1 to 64) of a scan, the first of them as the lowest bit of a word: what is left of a code, and the codes of the
 // devices below a place behind it. With the place below which the codes are left then, and what is left of the code at it.
-fn packed(
-    layout: &Layout,
-    codes: &[u64],
-    place: usize,
-    code: Piece,
-    n: u32,
-) -> (u64, usize, Piece)
+fn packed(layout: &Layout, codes: &[u64], place: usize, code: Piece, n: u32) -> (u64, usize, Piece)
     requires some { 1 ≤ n }
     requires few { n ≤ 64 }
     requires fits { code.count ≤ n }

@@ -1,4 +1,4 @@
-use Rattle.std.proofs.Common.{◌≤◌, ◌++◌, length, take}
+use Rattle.std.proofs.Common.{◌≤◌, ◌++◌, take}
 use Rattle.scan_bits.specs.Words.{bits_of}
 use Rattle.scan_bits.specs.Registers.{joined}
 use Rattle.scan_share.specs.Scans.{codes_of}
