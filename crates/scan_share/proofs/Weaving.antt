@@ -10,11 +10,11 @@ use Rattle.scan_share.specs.Rows.{woven, chosen}
 
 -- ---- a run more
 
-woven_others : (n : ℕ) (places bits : List Bool) → woven (replicate n false ++ places) bits ≡ replicate n false ++ woven places bits
+pub woven_others : (n : ℕ) (places bits : List Bool) → woven (replicate n false ++ places) bits ≡ replicate n false ++ woven places bits
 woven_others zero places bits = refl
 woven_others (suc n) places bits = ap (λ q. false ∷ q) (woven_others n places bits)
 
-woven_own : (n : ℕ) (places bits : List Bool) → n ≤ length bits → woven (replicate n true ++ places) bits ≡ take n bits ++ woven places (drop n bits)
+pub woven_own : (n : ℕ) (places bits : List Bool) → n ≤ length bits → woven (replicate n true ++ places) bits ≡ take n bits ++ woven places (drop n bits)
 woven_own zero places bits le = refl
 woven_own (suc n) places [] le = absurd (omega (arith, le))
 woven_own (suc n) places (bit ∷ bits) le = ap (λ q. bit ∷ q) (woven_own n places bits (omega (arith, le)))
@@ -39,7 +39,7 @@ own_fits others count most rest places bits le fits is =
     = omega (arith, fits, ap length split, length-append (replicate others false) (woven (replicate count true ++ rest) bits), length-replicate others false) in
     woven_fits count (most - others) rest bits (omega (arith, le)) here
 
-own_written : (count word : ℕ) (rest bits after : List Bool) → bits_of count word ++ after ≡ bits → bits_of count word ++ woven rest after ≡ woven (replicate count true ++ rest) bits
+pub own_written : (count word : ℕ) (rest bits after : List Bool) → bits_of count word ++ after ≡ bits → bits_of count word ++ woven rest after ≡ woven (replicate count true ++ rest) bits
 own_written count word rest bits after given =
     let size : count ≤ length bits = omega (arith, ap length given, length-append (bits_of count word) after, length-bits_of count word) in
     let first : take count bits ≡ bits_of count word = ap (take count) (sym given) ∙ take_at (bits_of count word) after count (length-bits_of count word) in

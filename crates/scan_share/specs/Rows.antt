@@ -112,3 +112,11 @@ pub record TakesOwn (n word count bits : ℕ) (before after : List Bool) : Type 
   pub few : count ≤ n
   pub taken : (more : List Bool) → bits_of count bits ++ chosen after more ≡ chosen before (bits_of n word ++ more)
   pub room : (m : ℕ) → n ≤ length (woven before (replicate m false)) → (count ≤ m) × (length (woven after (replicate (m - count) false)) + n ≡ length (woven before (replicate m false)))
+
+-- of a word's bits, which are the group's, the lowest are the next of a scan at the group's places, so many, with a 0 at each other; as many are there
+-- wherever the scan has bits for the word
+pub record Spreads (n own used word : ℕ) (before after : List Bool) : Type 0 where
+  pub bound : word < 2 ^ n
+  pub few : used ≤ n
+  pub spread : (more : List Bool) → bits_of n word ++ woven after more ≡ woven before (bits_of used own ++ more)
+  pub fits : (bits : List Bool) → n ≤ length (woven before bits) → used ≤ length bits
