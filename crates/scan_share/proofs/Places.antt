@@ -8,8 +8,6 @@ use Rattle.std.proofs.lemmas.List.{length-map, append-nil, take_all, replicate-a
 use Rattle.scan_bits.specs.Words.{bits_of, number_of}
 use Rattle.scan_bits.specs.Registers.{joined}
 use Rattle.part_model.specs.Parts.{DeviceType, width}
-use Rattle.part_model.specs.Plans.{IsPart, code_refusal}
-use Rattle.part_model.proofs.ResetLaws.{coded, first_none}
 use Rattle.grant_table.specs.Layouts.{first_place, bypass_word}
 use Rattle.scan_share.specs.PrivateChains.{entries_at}
 use Rattle.scan_share.specs.Scans.{codes_of, code_during, codes_from, widths_during}

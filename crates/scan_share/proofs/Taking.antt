@@ -1,5 +1,5 @@
 -- Words that are put together from pieces.
-use Rattle.std.proofs.Common.{◌≡◌, ◌≤◌, ◌<◌, ◌+◌, ◌-◌, ◌*◌, ◌%◌, ◌^◌, bit_or, ℕ, Bool, List, ◌++◌, take, drop, refl, ap, sym, ◌∙◌, arith, append_assoc}
+use Rattle.std.proofs.Common.{◌≡◌, ◌≤◌, ◌<◌, ◌+◌, ◌-◌, ◌*◌, ◌%◌, ◌^◌, bit_or, ℕ, Bool, List, ◌++◌, take, drop, ap, sym, ◌∙◌, arith, append_assoc}
 use Rattle.std.proofs.lemmas.List.{take_at, drop_at}
 use Rattle.std.proofs.lemmas.Nat.{mul-le, or_comm, or_shifted, pow-add, pow_pos}
 use Rattle.std.proofs.Math.Nat.{pow-le-pow_right, mul_comm, mod-eq_of_lt}
@@ -10,9 +10,6 @@ use Rattle.scan_bits.proofs.WordLaws.{bits_of-cat, number_of-bits_of, length-bit
 pub record Taken (word done : ℕ) (left all : List Bool) : Type 0 where
   pub small : word < 2 ^ done
   pub is : bits_of done word ++ left ≡ all
-
-pub taken_none : (all : List Bool) → Taken 0 0 all all
-taken_none all = record { small = omega arith; is = refl }
 
 pub taken_more : (word done bits count next n : ℕ) (left rest all : List Bool) → n ≤ 64 → done < n → count ≤ n - done → next ≡ done + count → bits < 2 ^ count
     → bits_of count bits ++ rest ≡ left → Taken word done left all → Taken (bit_or word (bits * 2 ^ done % 2 ^ 64)) next rest all

@@ -3,7 +3,7 @@ use Rattle.std.proofs.Common.{◌≡◌, ◌≤◌, ℕ, zero, suc, Bool, true, 
 use Rattle.std.specs.Prelude.{◌==◌, nat_lt}
 use Rattle.std.specs.declared.option.Option.{Option}
 use Rattle.std.specs.List.{list_any}
-use Rattle.std.proofs.lemmas.Bool.{eqb-true, eq-eqb, ltb-false}
+use Rattle.std.proofs.lemmas.Bool.{eqb-true, eq-eqb}
 use Rattle.part_model.specs.declared.Field.{Field}
 use Rattle.part_model.specs.declared.Field.TheVariants.{InstructionLength, RegisterAccess, BoundaryLength}
 use Rattle.part_model.specs.declared.plan.PlanRefusal.{PlanRefusal}

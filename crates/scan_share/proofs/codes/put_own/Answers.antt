@@ -1,4 +1,4 @@
-use Rattle.std.proofs.Common.{arith, sym, ◌∙◌, ◌+◌, slice_set, length}
+use Rattle.std.proofs.Common.{arith, sym, ◌∙◌, ◌+◌}
 use Rattle.std.specs.List.{slice_index_or}
 use Rattle.scan_share.proofs.Lookups.{length-slice_set}
 use Rattle.scan_share.proofs.Places.{read_at}

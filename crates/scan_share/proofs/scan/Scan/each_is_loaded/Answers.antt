@@ -1,4 +1,4 @@
-use Rattle.std.proofs.Common.{◌≤◌, ◌+◌, ap, arith, length, inl, inr}
+use Rattle.std.proofs.Common.{ap, arith, length, inl, inr}
 use Rattle.std.specs.List.{slice_index_or}
 use Rattle.std.proofs.lemmas.Bool.{cases_lt}
 use Rattle.scan_share.specs.Rows.{ScanView, scan_words}
