@@ -51,8 +51,8 @@ fn code_at(layout: &Layout, codes: &[u64], place: usize) -> Piece
     }
 }
 
-// The next `n` bits (1 to 64) of a scan, the first of them as the lowest bit of a word: what is left of a code, and the codes of the
-// devices below a place behind it. With the place below which the codes are left then, and what is left of the code at it.
+// The next `n` bits (1 to 64) of a scan, the first of them as the lowest bit of the word. What is left of the scan is the rest of a code, of
+// at most `n` bits, and behind it the codes of the devices below a place. With the place and the rest of a code that are left then.
 fn packed(layout: &Layout, codes: &[u64], place: usize, code: Piece, n: u32) -> (u64, usize, Piece)
     requires some { 1 ≤ n }
     requires few { n ≤ 64 }
@@ -69,12 +69,13 @@ fn packed(layout: &Layout, codes: &[u64], place: usize, code: Piece, n: u32) -> 
     while done < n {
         below -= 1;
         let next = code_at(layout, codes, below);
-        if next.count > n - done {
+        let end = done + next.count;
+        if end > n {
             let (first, rest) = next.split(n - done);
             return (word | first.bits << done, below, rest);
         }
         word |= next.bits << done;
-        done += next.count;
+        done = end;
     }
     (word, below, Piece { count: 0, bits: 0 })
 }
