@@ -16,4 +16,6 @@ mod sessions;
 #[cfg(test)]
 mod setups;
 #[cfg(test)]
+mod untold;
+#[cfg(test)]
 mod virtual_taps;

@@ -1,8 +1,9 @@
 // A session over a chain of two demo devices, of which the first is lent.
-ghost use Rattle.std.specs.Prelude.{◌≡◌, ◌<◌, ◌+◌, ◌-◌, ◌^◌, min, length, if◌then◌else◌, IfOk, IfSome};
+ghost use Rattle.std.specs.Prelude.{◌<◌, length, IfOk, IfSome};
 
+use crate::untold::UntoldChain;
 use base_types::Items;
-use chain_model::{Bench, Board, Cable, CableFault, Chain, demo_board};
+use chain_model::{Bench, Board, Chain, demo_board};
 use chain_token::Token;
 use client_session::{End, Session, leave};
 use grant_table::{Grant, Layout, Protocol, layout_fault};
@@ -10,80 +11,17 @@ use lone_session::{Served, serve};
 use ports::{MemSink, MemSource};
 use scan_share::Parked;
 use std::alloc::{AllocError, Global};
-use std::marker::Model;
 use std::test::Fail;
 
-// A chain of devices that is not told.
-#[derive(Drop)]
-struct Hidden {
-    chain: Chain,
-    faults: u64,
-}
-
-impl Model for Hidden {
-    ghost use Rattle.std.specs.Prelude.{◌≡◌, ◌<◌, ℕ, true, length};
-
-    ghost Value = { ℕ };
-
-    ghost view = { λ h. h.faults };
-
-    ghost invariant = { λ h. (0 < length h.chain.chain.devices) × (h.chain.trst ≡ true) };
-}
-
-// One fault more, where there is one.
-fn counted(faults: u64, failed: bool) -> u64
-    ensures { result ≡ (if failed then min (faults + 1) (2 ^ 64 - 1) else faults) }
-{
-    if failed {
-        faults.saturating_add(1)
-    } else {
-        faults
-    }
-}
-
-impl Cable for Hidden {
-    ghost use Rattle.std.specs.Prelude.{[], true, None};
-
-    ghost chain = { λ _. None };
-
-    ghost fault_count = { λ h. h };
-
-    ghost ahead = { λ _. None };
-
-    ghost mark = { λ _. [] };
-
-    ghost trst = { λ _. true };
-
-    fn cycles(&mut self, n: u32, tms: u64, tdi: u64) -> Result<u64, CableFault> {
-        let word = self.chain.cycles(n, tms, tdi);
-        self.faults = counted(self.faults, word.is_err());
-        word
-    }
-
-    fn has_trst(&self) -> bool {
-        true
-    }
-
-    fn reset(&mut self) -> Result<(), CableFault> {
-        let done = self.chain.reset();
-        self.faults = counted(self.faults, done.is_err());
-        done
-    }
-
-    fn faults(&self) -> u64 {
-        self.faults
-    }
-}
-
 // A chain of two demo devices at power-up; None where it was not assembled.
-fn two_devices(alloc: Global) -> Result<Option<Hidden>, AllocError> {
+fn two_devices(alloc: Global) -> Result<Option<UntoldChain>, AllocError> {
     let mut chain = Chain::empty();
     let first = demo_board(alloc)?;
     let second = demo_board(alloc)?;
     if chain.assemble(alloc, &[first, second], &[]).is_err() {
         return Ok(None);
     }
-    Ok(Some(Hidden { chain, faults: 0 }))
+    Ok(Some(UntoldChain::new(chain)))
 }
 
 // A layout of two demo devices with a grant of the first; None where it has a fault.

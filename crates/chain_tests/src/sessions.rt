@@ -1,89 +1,29 @@
 // Sessions of a grant of one demo device.
-ghost use Rattle.std.specs.Prelude.{◌≡◌, ◌<◌, ◌+◌, ◌-◌, ◌^◌, [], false, true, min, length, if◌then◌else◌, IfOk, IfSome, None};
+ghost use Rattle.std.specs.Prelude.{◌≡◌, ◌<◌, [], false, length, IfOk, IfSome};
 ghost use Rattle.client_session.specs.declared.Stand.TheVariants.{Going};
 ghost use Rattle.client_session.specs.Desks.{IsDesk};
 ghost use Rattle.client_session.specs.Stores.{IsOfLayout};
 ghost use Rattle.client_session.specs.Turns.{is_among};
 ghost use Rattle.chain_token.specs.Tokens.{waiting};
 
+use crate::untold::UntoldChain;
 use base_types::Items;
-use chain_model::{Bench, Board, Cable, CableFault, Chain, demo_board};
+use chain_model::{Bench, Board, Chain, demo_board};
 use chain_token::Token;
 use client_session::{Desk, End, Session, Stand, Stop, leave};
 use grant_table::{Grant, Layout, Protocol, layout_fault};
 use scan_share::Parked;
 use std::alloc::{AllocError, Global};
-use std::marker::Model;
 use std::test::Fail;
 
-// A chain of devices that is not told.
-#[derive(Drop)]
-struct Hidden {
-    chain: Chain,
-    faults: u64,
-}
-
-impl Model for Hidden {
-    ghost use Rattle.std.specs.Prelude.{◌≡◌, ◌<◌, ℕ, true, length};
-
-    ghost Value = { ℕ };
-
-    ghost view = { λ h. h.faults };
-
-    ghost invariant = { λ h. (0 < length h.chain.chain.devices) × (h.chain.trst ≡ true) };
-}
-
-// One fault more, where there is one.
-fn counted(faults: u64, failed: bool) -> u64
-    ensures { result ≡ (if failed then min (faults + 1) (2 ^ 64 - 1) else faults) }
-{
-    if failed {
-        faults.saturating_add(1)
-    } else {
-        faults
-    }
-}
-
-impl Cable for Hidden {
-    ghost chain = { λ _. None };
-
-    ghost fault_count = { λ h. h };
-
-    ghost ahead = { λ _. None };
-
-    ghost mark = { λ _. [] };
-
-    ghost trst = { λ _. true };
-
-    fn cycles(&mut self, n: u32, tms: u64, tdi: u64) -> Result<u64, CableFault> {
-        let word = self.chain.cycles(n, tms, tdi);
-        self.faults = counted(self.faults, word.is_err());
-        word
-    }
-
-    fn has_trst(&self) -> bool {
-        true
-    }
-
-    fn reset(&mut self) -> Result<(), CableFault> {
-        let done = self.chain.reset();
-        self.faults = counted(self.faults, done.is_err());
-        done
-    }
-
-    fn faults(&self) -> u64 {
-        self.faults
-    }
-}
-
 // A chain of one demo device at power-up; None where it was not assembled.
-fn one_device(alloc: Global) -> Result<Option<Hidden>, AllocError> {
+fn one_device(alloc: Global) -> Result<Option<UntoldChain>, AllocError> {
     let mut chain = Chain::empty();
     let board = demo_board(alloc)?;
     if chain.assemble(alloc, &[board], &[]).is_err() {
         return Ok(None);
     }
-    Ok(Some(Hidden { chain, faults: 0 }))
+    Ok(Some(UntoldChain::new(chain)))
 }
 
 // A layout of one demo device and its grant; None where it has a fault.
@@ -143,7 +83,7 @@ fn ended(stop: Stop) -> Option<End> {
 // waits or the cable fails.
 fn serve(
     session: &mut Session,
-    desk: Desk<Hidden>,
+    desk: Desk<UntoldChain>,
     layout: &Layout,
     input: &[u8],
     out: &mut Vec<u8>,
