@@ -1,5 +1,5 @@
 -- A round serves the sessions that are ready.
-use Rattle.std.proofs.Common.{◌≡◌, ◌≢◌, ℕ, ◌+◌, ◌≤◌, ◌<◌, Bool, true, false, List, [], ◌∷◌, ◌++◌, length, take, refl, ap, sym, subst, ◌∙◌, arith, inl, inr, ◌⊎◌, length-take}
+use Rattle.std.proofs.Common.{◌≡◌, ◌≢◌, ℕ, ◌+◌, ◌≤◌, ◌<◌, Bool, true, false, List, [], ◌∷◌, length, take, refl, ap, sym, subst, ◌∙◌, arith, inl, inr, ◌⊎◌, length-take}
 use Rattle.std.specs.List.{slice_index_or, slice_set}
 use Rattle.std.specs.declared.option.Option.{Option}
 use Rattle.std.specs.declared.option.Option.TheVariants.{None, Some}
@@ -8,11 +8,11 @@ use Rattle.std.specs.declared.result.Result.{Result}
 use Rattle.std.specs.declared.result.Result.TheVariants.{Ok, Err}
 use Rattle.std.proofs.lemmas.Bool.{eq-eqb}
 use Rattle.std.proofs.lemmas.List.{get_or-set_same, get_or-set_other}
-use Rattle.base_types.specs.Tellings.{Told, Both}
+use Rattle.base_types.specs.Tellings.{Both}
 use Rattle.base_types.proofs.TellingLaws.{both_joined}
 use Rattle.client_session.specs.declared.Stand.{Stand}
 use Rattle.client_session.specs.declared.Stand.TheVariants as stand
-use Rattle.client_session.specs.Sessions.{is_here, is_in_line, is_leaving, is_taken}
+use Rattle.client_session.specs.Sessions.{is_here, is_in_line, is_taken}
 use Rattle.wire_port.specs.Steps.{Step, taken_from}
 use Rattle.wire_port.specs.Offers.{Answer}
 use Rattle.wire_port.specs.Wires.{WireView}
@@ -20,7 +20,7 @@ use Rattle.wire_port.specs.Calls.{after_take}
 use Rattle.wire_port.proofs.Stepping.{taken_behind}
 use Rattle.plays.specs.Stands.{HubView}
 use Rattle.plays.proofs.Lists.{false_true}
-use Rattle.session_table.specs.Tables.{TableView, KeepsTable, StaysSo, WentOn, stand_at, view_at}
+use Rattle.session_table.specs.Tables.{TableView, KeepsTable, StaysSo, WentOn, stand_at}
 use Rattle.hub.specs.Served.{AreWhole, OnlyOpened, SameSessions, conn_at, ready_as}
 use Rattle.hub.specs.Rounds.{HasDone, IsGoing, IsUntouched, ServesNext, ServesOne, ServesReady, TookFrom, WasServed}
 use Rattle.hub.proofs.AfterCalls.{keeps_conn}
