@@ -26,7 +26,6 @@ pub mod Adjacent
 pub mod Around
 pub mod Weaving
 pub mod Gathering
-pub mod Spreading
 pub mod Woven
 pub mod CodeWords
 pub mod Rested

@@ -112,11 +112,3 @@ pub record TakesOwn (n word count bits : ℕ) (before after : List Bool) : Type 
   pub few : count ≤ n
   pub taken : (more : List Bool) → bits_of count bits ++ chosen after more ≡ chosen before (bits_of n word ++ more)
   pub room : (m : ℕ) → n ≤ length (woven before (replicate m false)) → (count ≤ m) × (length (woven after (replicate (m - count) false)) + n ≡ length (woven before (replicate m false)))
-
--- the next n bits of a scan are a word: so many bits of the group, the lowest of its own, at its places, and 0 at the others; a list of bits
--- that makes at least n bits of the scan has so many
-pub record Spreads (n own used word : ℕ) (before after : List Bool) : Type 0 where
-  pub bound : word < 2 ^ n
-  pub few : used ≤ n
-  pub spread : (more : List Bool) → bits_of n word ++ woven after more ≡ woven before (bits_of used own ++ more)
-  pub fits : (bits : List Bool) → n ≤ length (woven before bits) → used ≤ length bits
