@@ -52,7 +52,7 @@ fn ir_sum(parts: &[Part]) -> usize
     sum
 }
 
-/// The code of BYPASS: a one for each bit of the instruction register (IEEE 1149.1).
+/// The code of BYPASS: a one for each bit of the instruction register (IEEE 1149.1), in the lowest bits of the word; bit 0 is nearest TDO.
 pub fn bypass_code(part: &Part) -> u64
     ensures { result ≡ bypass_word part.now }
 {
@@ -195,7 +195,7 @@ impl Layout {
         &self.parts[place]
     }
 
-    /// The code of BYPASS of each device, from TDI on.
+    /// The code of BYPASS of each device, from TDI on: in each word bit 0 is nearest TDO.
     pub fn bypass_codes(&self) -> &[u64]
         ensures { result.now ≡ map bypass_word self.now.parts }
     {

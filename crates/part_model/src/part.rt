@@ -168,13 +168,22 @@ impl Part {
     }
 
     /// How many bits the data register has that a code selects.
+    #[inline(always)]
     pub fn selected_length(&self, code: u64) -> u32
         ensures { result ≡ parts.length_of self.now (parts.selected self.now (bits_of self.now.ir_length code)) }
     {
         match self.table.get(code) {
             Some(entry) => entry.length,
-            None => self.len_of(self.search(code)),
+            None => self.searched_length(code),
         }
+    }
+
+    // The same, found among the opcodes.
+    #[inline(never)]
+    fn searched_length(&self, code: u64) -> u32
+        ensures { result ≡ parts.length_of self.now (parts.selected self.now (bits_of self.now.ir_length code)) }
+    {
+        self.len_of(self.search(code))
     }
 
     // The data register that a code selects, found among the opcodes.

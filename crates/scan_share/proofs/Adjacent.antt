@@ -2,7 +2,7 @@
 use Rattle.std.proofs.Common.{◌≡◌, ◌≤◌, ◌<◌, ◌+◌, ◌-◌, ℕ, zero, suc, Bool, true, false, List, [], ◌∷◌, ◌++◌, length, replicate, refl, ap, sym, ◌∙◌, arith, Some, append_assoc, nat_eq, subst, min, inl, inr}
 use Rattle.std.specs.Prelude.{slice_get}
 use Rattle.std.specs.List.{slice_index_or, sum_by}
-use Rattle.std.proofs.lemmas.Bool.{cases_lt, eqb-true}
+use Rattle.std.proofs.lemmas.Bool.{cases_lt, eqb-true, eq-eqb}
 use Rattle.std.proofs.lemmas.List.{append-nil, replicate-append-replicate}
 use Rattle.std.proofs.lemmas.List.Sums.{sum_by-cons}
 use Rattle.std.proofs.lemmas.Option.{same_Some, slice_get_within}
@@ -43,6 +43,11 @@ pub neighbours_found : (group : List ℕ) (first last : ℕ) → RisesFrom 0 gro
 neighbours_found group first last rises first_is last_is equal =
     let low : slice_index_or group 0 0 ≡ first = or_at group 0 first 0 (sym first_is) in
     neighbours group last rises (omega (arith, slice_get_within group 0 first (sym first_is))) (sym last_is) (omega (arith, eqb-true (last + 1) (first + length group) equal, low))
+
+pub neighbours_told : (group : List ℕ) (first last : ℕ) → Some first ≡ slice_get group 0 → Some last ≡ slice_get group (length group - 1) → AreNeighbours group → nat_eq (last + 1) (first + length group) ≡ true
+neighbours_told group first last first_is last_is are =
+    let low : slice_index_or group 0 0 ≡ first = or_at group 0 first 0 (sym first_is) in
+    eq-eqb (last + 1) (first + length group) (omega (arith, are.some, low, are.each (length group - 1) last (sym last_is)))
 
 -- ---- the sum of the first widths
 

@@ -1,5 +1,5 @@
 -- What stands at a place of a scan.
-use Rattle.std.proofs.Common.{◌≡◌, ◌≤◌, ◌<◌, ◌+◌, ◌-◌, ◌^◌, ◌==◌, ℕ, zero, suc, Bool, true, false, List, [], ◌∷◌, ◌++◌, length, map, take, replicate, refl, ap, sym, subst, ◌∙◌, arith, Some, None, append_assoc}
+use Rattle.std.proofs.Common.{◌≡◌, ◌≤◌, ◌<◌, ◌-◌, ◌^◌, ◌==◌, ℕ, zero, suc, Bool, true, false, List, [], ◌∷◌, ◌++◌, length, map, take, replicate, refl, ap, sym, subst, ◌∙◌, arith, Some, None, append_assoc}
 use Rattle.std.specs.Prelude.{slice_get}
 use Rattle.std.specs.Option.{option_map}
 use Rattle.std.specs.List.{All, slice_index_or}
@@ -7,15 +7,17 @@ use Rattle.std.proofs.lemmas.Option.{slice_get-map, slice_get_within, same_Some}
 use Rattle.std.proofs.lemmas.List.{length-map, append-nil, take_all, replicate-append-replicate}
 use Rattle.scan_bits.specs.Words.{bits_of, number_of}
 use Rattle.scan_bits.specs.Registers.{joined}
-use Rattle.part_model.specs.Parts.{DeviceType, width}
+use Rattle.part_model.specs.Parts.{DeviceType}
 use Rattle.grant_table.specs.Layouts.{first_place, bypass_word}
 use Rattle.scan_share.specs.PrivateChains.{entries_at}
-use Rattle.scan_share.specs.Scans.{codes_of, code_during, codes_from, widths_during}
+use Rattle.scan_share.specs.Scans.{codes_of, code_during, widths_during}
 use Rattle.scan_share.specs.Codes.{AreCodes}
-use Rattle.scan_share.specs.Written.{stages_from, group_widths}
+use Rattle.scan_share.specs.Written.{group_widths}
 use Rattle.scan_share.specs.Rows.{ScanView, IsScanOf, own_codes, scan_codes, scan_words, own_stages, marks_below}
 use Rattle.scan_share.proofs.Lookups.{placed, entry_at, entry_within, length-entries_at, code_or, code_during_is, codes_at, some_none}
 use Rattle.scan_share.proofs.CodeWords.{number_small}
+use Rattle.scan_share.proofs.Loads.{length-codes_from}
+use Rattle.scan_share.proofs.Updates.{length-widths_during, length-stages_from, stage_at}
 
 -- ---- entries
 
@@ -46,10 +48,6 @@ length-words [] (word ∷ words) are = absurd are
 length-words (part ∷ parts) [] are = absurd are
 length-words (part ∷ parts) (word ∷ words) are = ap suc (length-words parts words are.1)
 
-length-codes_from : (group : List ℕ) (codes : List (List Bool)) (from : ℕ) (parts : List DeviceType) → length (codes_from group codes from parts) ≡ length parts
-length-codes_from group codes from [] = refl
-length-codes_from group codes from (part ∷ parts) = ap suc (length-codes_from group codes (suc from) parts)
-
 pub code_at : (parts : List DeviceType) (words : List ℕ) (i word : ℕ) (part : DeviceType) → slice_get parts i ≡ Some part → slice_get words i ≡ Some word
     → slice_get (codes_of parts words) i ≡ Some (bits_of part.ir_length word)
 code_at [] words i word part p w = some_none part (sym p)
@@ -62,24 +60,6 @@ code_below [] words i word part are p w = some_none part (sym p)
 code_below (first ∷ parts) [] i word part are p w = absurd are
 code_below (first ∷ parts) (code ∷ words) zero word part are p w = subst (λ q. word < 2 ^ q.ir_length) (same_Some first part p) (subst (λ v. v < 2 ^ first.ir_length) (same_Some code word w) are.0)
 code_below (first ∷ parts) (code ∷ words) (suc i) word part are p w = code_below parts words i word part are.1 p w
-
-pub width_at : (parts : List DeviceType) (codes : List (List Bool)) (i : ℕ) (part : DeviceType) (code : List Bool) → slice_get parts i ≡ Some part → slice_get codes i ≡ Some code
-    → slice_get (widths_during parts codes) i ≡ Some (width part code)
-width_at [] codes i part code p c = some_none part (sym p)
-width_at (first ∷ parts) [] i part code p c = some_none code (sym c)
-width_at (first ∷ parts) (other ∷ codes) zero part code p c = λ k. Some (width (same_Some first part p k) (same_Some other code c k))
-width_at (first ∷ parts) (other ∷ codes) (suc i) part code p c = width_at parts codes i part code p c
-
-pub length-widths : (parts : List DeviceType) (codes : List (List Bool)) → length codes ≡ length parts → length (widths_during parts codes) ≡ length parts
-length-widths [] codes size = refl
-length-widths (part ∷ parts) [] size = absurd (omega (arith, size))
-length-widths (part ∷ parts) (code ∷ codes) size = ap suc (length-widths parts codes (omega (arith, size)))
-
-pub stages_at : {X : Type 0} (group : List ℕ) (pieces : List (List Bool)) (from : ℕ) (xs : List X) (i : ℕ) (x : X) → slice_get xs i ≡ Some x
-    → slice_get (stages_from group pieces from xs) i ≡ Some (code_during group pieces (from + i) (false ∷ []))
-stages_at group pieces from [] i x is = some_none x (sym is)
-stages_at group pieces from (first ∷ xs) zero x is = ap (λ k. Some (code_during group pieces k (false ∷ []))) (omega arith)
-stages_at group pieces from (first ∷ xs) (suc i) x is = stages_at group pieces (suc from) xs i x is ∙ ap (λ k. Some (code_during group pieces k (false ∷ []))) (omega arith)
 
 -- ---- a scan
 
@@ -141,7 +121,7 @@ ones_of widths = map (λ width. replicate width true) widths
 pub width_count : (scan : ScanView) → IsScanOf scan.layout scan.group scan.codes → length (group_widths scan.layout scan.group (own_codes scan)) ≡ length scan.group
 width_count scan is =
     let entries = entries_at scan.layout.parts scan.group in
-    length-widths entries (own_codes scan) (length-codes entries scan.codes is.coded)
+    length-widths_during entries (own_codes scan) (length-codes entries scan.codes is.coded)
     ∙ length-entries_at scan.layout.parts scan.group (λ g q e. all_at (λ k. k < length scan.layout.parts) scan.group is.within g q e)
 
 -- ---- stages from the last to the first
@@ -169,14 +149,10 @@ run_split n count own rest le =
     sym (append_assoc (replicate n own) (replicate (count - n) own) rest)
     ∙ ap (λ q. q ++ rest) (replicate-append-replicate n (count - n) own ∙ ap (λ k. replicate k own) (omega (arith, le)))
 
-length-stages : {X : Type 0} (group : List ℕ) (pieces : List (List Bool)) (from : ℕ) (xs : List X) → length (stages_from group pieces from xs) ≡ length xs
-length-stages group pieces from [] = refl
-length-stages group pieces from (x ∷ xs) = ap suc (length-stages group pieces (suc from) xs)
-
 -- a scan has a stage for each device
 pub all_stages : (scan : ScanView) (count : ℕ) → count ≡ length scan.layout.parts → take count (own_stages scan) ≡ own_stages scan
 all_stages scan count is =
-    take_all count (own_stages scan) (omega (arith, is, length-stages scan.group (ones_of (widths_during (entries_at scan.layout.parts scan.group) (own_codes scan))) 0 scan.layout.parts))
+    take_all count (own_stages scan) (omega (arith, is, length-stages_from scan.group (ones_of (widths_during (entries_at scan.layout.parts scan.group) (own_codes scan))) 0 scan.layout.parts))
 
 -- and the bits of the first stages are those below a place
 pub marks_are : (scan : ScanView) (place : ℕ) → place ≤ length scan.layout.parts
@@ -186,7 +162,7 @@ marks_are scan (suc place) le =
     let ones = ones_of (group_widths scan.layout scan.group (own_codes scan)) in
     let part = entry_within scan.layout.parts place (omega (arith, le)) in
     next_stage (own_stages scan) place (code_during scan.group ones place (false ∷ []))
-    (stages_at scan.group ones 0 scan.layout.parts place (part.0) (part.1) ∙ ap (λ k. Some (code_during scan.group ones k (false ∷ []))) (omega arith))
+    (stage_at scan.group ones scan.layout.parts place ∙ ap (option_map (λ part. code_during scan.group ones place (false ∷ []))) part.1)
     ∙ ap (λ q. code_during scan.group ones place (false ∷ []) ++ q) (marks_are scan place (omega (arith, le)))
 
 pub all_marks : (scan : ScanView) (count : ℕ) (widths : List ℕ) → count ≡ length scan.layout.parts → widths ≡ group_widths scan.layout scan.group (own_codes scan)

@@ -21,7 +21,8 @@ use Rattle.scan_share.specs.Views.{words_of, OpenWith}
 use Rattle.scan_share.specs.Laws.{IsScan, IsGroup}
 use Rattle.scan_share.proofs.Groups.{group_of_laws}
 use Rattle.scan_share.proofs.Lookups.{length-entries_at}
-use Rattle.scan_share.proofs.Places.{length-codes, length-widths}
+use Rattle.scan_share.proofs.Places.{length-codes}
+use Rattle.scan_share.proofs.Updates.{length-widths_during}
 use Rattle.scan_share.proofs.Loads.{codes_lengths}
 use Rattle.scan_share.proofs.Widths.{joined_length}
 use Rattle.scan_share.proofs.Updates.{written_lengths}
@@ -41,7 +42,7 @@ coded layout group words is are = codes_counted (entries_at layout.parts group) 
 pub widths_counted : (layout : LayoutShape) (group words : List ℕ) → IsGroup layout group → AreCodes (entries_at layout.parts group) words
     → length (group_widths layout group (codes_of (entries_at layout.parts group) words)) ≡ length group
 widths_counted layout group words is are =
-    length-widths (entries_at layout.parts group) (codes_of (entries_at layout.parts group) words) (length-codes (entries_at layout.parts group) words are)
+    length-widths_during (entries_at layout.parts group) (codes_of (entries_at layout.parts group) words) (length-codes (entries_at layout.parts group) words are)
     ∙ length-entries_at layout.parts group (group_of_laws layout group is).within
 
 pub scan_is : (layout : LayoutShape) (group words : List ℕ) → AllParts layout.parts → 1 ≤ length layout.parts → IsGroup layout group → AreCodes (entries_at layout.parts group) words

@@ -21,7 +21,8 @@ use Rattle.scan_share.specs.PrivateChains.{entries_at}
 use Rattle.scan_share.proofs.CodeWords.{drop_at, drop_past}
 use Rattle.scan_share.proofs.Lookups.{some_none, found, placed, code_or, code_during_is, entry_at, entry_past, entry_within, length-entries_at, same_entries}
 use Rattle.scan_share.proofs.Wide.{width_some}
-use Rattle.scan_share.proofs.Places.{or_at, read_at, all_at, own_code, code_at, width_at, width_count, length-scan_words, length-words}
+use Rattle.scan_share.proofs.Updates.{widths_zip_at}
+use Rattle.scan_share.proofs.Places.{or_at, read_at, all_at, own_code, code_at, width_count, length-scan_words, length-words}
 
 -- ---- groups whose places rise
 
@@ -408,7 +409,7 @@ pub group_width : (parts : List DeviceType) (group codes : List ℕ) (i place co
 group_width parts group codes i place code d e part within coded lt place_is code_is is =
     let entry : slice_get (entries_at parts group) i ≡ Some part
     = entry_at parts group (λ g q h. all_at (λ k. k < length parts) group within g q h) i place (read_at group i d lt ∙ ap Some (sym place_is)) ∙ is in
-    width_at (entries_at parts group) (codes_of (entries_at parts group) codes) i part (bits_of part.ir_length code) entry
+    widths_zip_at (entries_at parts group) (codes_of (entries_at parts group) codes) i part (bits_of part.ir_length code) entry
     (code_at (entries_at parts group) codes i code part entry (read_at codes i e (omega (arith, lt, coded)) ∙ ap Some (sym code_is)))
 
 pub group_widths_counted : (parts : List DeviceType) (group codes : List ℕ) → All (λ place. place < length parts) group → length codes ≡ length group

@@ -25,7 +25,8 @@ pub fn are_neighbours(group: &[usize]) -> bool
     requires rising { RisesFrom 0 group.now }
     requires low { All (λ place. place < 32) group.now }
     requires few { length group.now ≤ 32 }
-    ensures { result ≡ true → AreNeighbours group.now }
+    ensures found { result ≡ true → AreNeighbours group.now }
+    ensures all { AreNeighbours group.now → result ≡ true }
 {
     match (group.first(), group.last()) {
         (Some(first), Some(last)) => *last + 1 == *first + group.len(),

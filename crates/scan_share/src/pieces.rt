@@ -1,6 +1,6 @@
 // Bits that come in pieces.
-ghost use Rattle.std.specs.Prelude.{◌≡◌, ◌≤◌, ◌<◌, ◌^◌, ◌%◌, ◌+◌, ◌++◌, List, Bool, length, take, drop};
-ghost use Rattle.scan_bits.specs.Words.{bits_of, number_of};
+ghost use Rattle.std.specs.Prelude.{◌≡◌, ◌≤◌, ◌<◌, ◌^◌, ◌%◌, ◌+◌, ◌++◌};
+ghost use Rattle.scan_bits.specs.Words.{bits_of};
 
 /// Up to 64 bits: the lowest `count` of `bits`, the lowest first. The others are 0.
 #[derive(Clone, Copy)]
@@ -56,42 +56,4 @@ impl Piece {
             bits: self.bits | low_bits(word, count) << self.count,
         }
     }
-}
-
-/// Gives bits, as many at a time as are at hand.
-pub trait Pieces {
-    /// The bits that are left, the next one first.
-    ghost left: { Self → List Bool };
-
-    /// The next bits, at most `most` of them. They are left no more.
-    fn next(&mut self, most: u32) -> Piece
-        requires some { 1 ≤ most }
-        requires few { most ≤ 64 }
-        requires left { most ≤ length (left self.old) }
-        ensures left { bits_of result.count result.bits ++ left self.new ≡ left self.old }
-        ensures some { 1 ≤ result.count }
-        ensures few { result.count ≤ most }
-        ensures bound { result.bits < 2 ^ result.count };
-}
-
-/// The next `n` bits (1 to 64), the first of them as the lowest bit of the answer.
-pub fn taken<P: Pieces>(pieces: &mut P, n: u32) -> u64
-    requires some { 1 ≤ n }
-    requires few { n ≤ 64 }
-    requires left { n ≤ length (P.left pieces.old) }
-    ensures word { result ≡ number_of (take n (P.left pieces.old)) }
-    ensures left { P.left pieces.new ≡ drop n (P.left pieces.old) }
-{
-    let first = pieces.next(n);
-    if first.count == n {
-        return first.bits;
-    }
-    let mut word = first.bits;
-    let mut done = first.count;
-    while done < n {
-        let piece = pieces.next(n - done);
-        word |= piece.bits << done;
-        done += piece.count;
-    }
-    word
 }

@@ -1,8 +1,9 @@
 // The bits that a write shifts in.
-ghost use Rattle.std.specs.Prelude.{◌≡◌, ◌≤◌, ◌+◌, drop};
+ghost use Rattle.std.specs.Prelude.{◌≡◌, ◌≤◌, ◌<◌, ◌^◌, ◌+◌, ◌++◌, length, take, drop};
+ghost use Rattle.scan_bits.specs.Words.{bits_of, number_of};
 ghost use Rattle.scan_share.specs.Rows.{woven};
 
-use crate::pieces::{Piece, Pieces, taken};
+use crate::pieces::Piece;
 use crate::runs::ScanRuns;
 use scan_bits::Bits;
 use scan_walks::BitSource;
@@ -31,12 +32,17 @@ impl<'a, R: ScanRuns> WriteBits<'a, R> {
     {
         WriteBits { runs, bits, at: 0 }
     }
-}
 
-impl<'a, R: ScanRuns> Pieces for WriteBits<'a, R> {
-    ghost left = { λ w. woven (R.marks w.runs) (drop w.at w.bits.now.bits) };
-
-    fn next(&mut self, most: u32) -> Piece {
+    // The next bits of one run, at most `most` of them. They are left no more.
+    fn next(&mut self, most: u32) -> Piece
+        requires some { 1 ≤ most }
+        requires few { most ≤ 64 }
+        requires left { most ≤ length (woven (R.marks self.old.runs) (drop self.old.at self.old.bits.now.bits)) }
+        ensures left { bits_of result.count result.bits ++ woven (R.marks self.new.runs) (drop self.new.at self.new.bits.now.bits) ≡ woven (R.marks self.old.runs) (drop self.old.at self.old.bits.now.bits) }
+        ensures some { 1 ≤ result.count }
+        ensures few { result.count ≤ most }
+        ensures bound { result.bits < 2 ^ result.count }
+    {
         let run = self.runs.next(most);
         if run.own == 0 {
             return Piece {
@@ -51,12 +57,36 @@ impl<'a, R: ScanRuns> Pieces for WriteBits<'a, R> {
             bits: own << run.others,
         }
     }
+
+    // The next `n` bits (1 to 64) where those of the first run are taken already, and are fewer.
+    #[inline(always)]
+    fn take_behind(&mut self, first: Piece, n: u32) -> u64
+        requires few { n ≤ 64 }
+        requires fewer { first.count < n }
+        requires bound { first.bits < 2 ^ first.count }
+        requires left { n ≤ length (bits_of first.count first.bits ++ woven (R.marks self.old.runs) (drop self.old.at self.old.bits.now.bits)) }
+        ensures word { result ≡ number_of (take n (bits_of first.count first.bits ++ woven (R.marks self.old.runs) (drop self.old.at self.old.bits.now.bits))) }
+        ensures left { woven (R.marks self.new.runs) (drop self.new.at self.new.bits.now.bits) ≡ drop n (bits_of first.count first.bits ++ woven (R.marks self.old.runs) (drop self.old.at self.old.bits.now.bits)) }
+    {
+        let mut word = first.bits;
+        let mut done = first.count;
+        while done < n {
+            let piece = self.next(n - done);
+            word |= piece.bits << done;
+            done += piece.count;
+        }
+        word
+    }
 }
 
 impl<'a, R: ScanRuns> BitSource for WriteBits<'a, R> {
     ghost left = { λ w. woven (R.marks w.runs) (drop w.at w.bits.now.bits) };
 
     fn take(&mut self, n: u32) -> u64 {
-        taken(self, n)
+        let first = self.next(n);
+        if first.count == n {
+            return first.bits;
+        }
+        self.take_behind(first, n)
     }
 }

@@ -4,10 +4,10 @@ use Rattle.scan_share.proofs.Places.{read_at}
 use Rattle.scan_share.proofs.members.mask_of.Goals as goal
 
 pub row_mask-requires-clause-few : goal.row_mask-requires-clause-few
-row_mask-requires-clause-few c = row_fits c.args.group.now (c.are_neighbours.ensures c.if-are_neighbours.true) c.requires.low
+row_mask-requires-clause-few c = row_fits c.args.group.now (c.are_neighbours.ensures.found c.if-are_neighbours.true) c.requires.low
 
 pub returns-then-are_neighbours : goal.returns-then-are_neighbours
-returns-then-are_neighbours c = c.row_mask.ensures ∙ sym (neighbour_row c.args.group.now (c.are_neighbours.ensures c.if-are_neighbours.true))
+returns-then-are_neighbours c = c.row_mask.ensures ∙ sym (neighbour_row c.args.group.now (c.are_neighbours.ensures.found c.if-are_neighbours.true))
 
 pub loop-place-init : goal.loop-place-init
 loop-place-init c = none_marked c.args.group.now

@@ -1,6 +1,6 @@
 use Rattle.std.proofs.Common.{arith, drop}
 use Rattle.scan_share.proofs.Weaving.{own_fits, run_written, run_fits, others_written, word_given, word_within}
-use Rattle.scan_share.proofs.write_bits.WriteBitsPieces.next.Goals as goal
+use Rattle.scan_share.proofs.write_bits.WriteBits.next.Goals as goal
 
 pub returns-then-run-eq0-clause-left : goal.returns-then-run-eq0-clause-left
 returns-then-run-eq0-clause-left g c =
