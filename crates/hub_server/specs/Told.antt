@@ -2,17 +2,8 @@
 use Rattle.std.specs.Prelude.{ℕ, suc, List, ◌++◌, codes}
 use Rattle.std.specs.List.{flat_map}
 use Rattle.std.specs.Fmt.{decimal}
-use Rattle.client_session.specs.declared.End.{End}
-use Rattle.client_session.specs.declared.End.TheVariants.{Quit, Refused, Gone, Cut, Long}
+use Rattle.report_lines.specs.Ends.{end_text}
 use Rattle.plays.specs.Plays.{SessionEnd}
-
--- how a session ended, with the place in its bytes
-abbrev pub end_text : End → List ℕ
-end_text (Quit at) = codes "quit " ++ decimal at
-end_text (Gone at) = codes "gone " ++ decimal at
-end_text (Cut at) = codes "cut " ++ decimal at
-end_text (Long at) = codes "long " ++ decimal at
-end_text (Refused at cause) = codes "refused " ++ decimal at ++ codes " " ++ decimal cause
 
 -- the line of a session that ended; grants count from 1
 abbrev pub ended_line : SessionEnd → List ℕ

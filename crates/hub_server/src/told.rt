@@ -1,31 +1,13 @@
 // What is told of the sessions that ended.
-ghost use Rattle.std.specs.Prelude.{◌≡◌, ◌≤◌, ◌<◌, ◌+◌, ◌++◌, length, map};
+ghost use Rattle.std.specs.Prelude.{◌≡◌, ◌<◌, map};
 ghost use Rattle.session_table.specs.Shown.{EachFew, session_end};
 ghost use Rattle.text_lines.specs.Printed.{Prints};
-ghost use Rattle.hub_server.specs.Told.{end_text, ended_line, ended_lines};
+ghost use Rattle.hub_server.specs.Told.{ended_line, ended_lines};
 
-use client_session::End;
 use ports::{PortFault, Sink};
+use report_lines::push_end;
 use session_table::Ended;
 use text_lines::{Line, push_number, push_text, put};
-
-// Puts how a session ended behind the line.
-fn push_end(line: &mut Line, end: End)
-    requires { length line.old.items ≤ 900 }
-    ensures is { line.new.items ≡ line.old.items ++ end_text end }
-    ensures room { length line.new.items ≤ length line.old.items + 60 }
-{
-    match end {
-        End::Quit(at) => push_number(line, b"quit ", at),
-        End::Gone(at) => push_number(line, b"gone ", at),
-        End::Cut(at) => push_number(line, b"cut ", at),
-        End::Long(at) => push_number(line, b"long ", at),
-        End::Refused(at, cause) => {
-            push_number(line, b"refused ", at);
-            push_number(line, b" ", u64::from(cause));
-        }
-    }
-}
 
 // The line of a session that ended. Grants count from 1.
 fn ended_line(ended: &Ended) -> Line

@@ -1,4 +1,3 @@
-pub mod HexLaws
 pub mod Lines
 pub mod SetupLaws
 pub mod SessionLaws

@@ -16,7 +16,8 @@ use Rattle.grant_table.specs.declared.Protocol.{Protocol}
 use Rattle.grant_table.specs.Layouts.{LayoutShape, GrantShape, group_of, longest_of}
 use Rattle.base_types.specs.Tellings.{Told}
 use Rattle.scan_bits.proofs.WordLaws.{number_of-bits_of}
-use Rattle.share_top.specs.Checks.{hex, hex_digits, group_bits, grant_text, device_list, net_line, net_lines, grant_line, grant_lines, device_line, device_lines}
+use Rattle.text_lines.specs.Hex.{hex, hex_digits}
+use Rattle.share_top.specs.Checks.{group_bits, grant_text, device_list, net_line, net_lines, grant_line, grant_lines, device_line, device_lines}
 
 -- ---- the instruction bits of a group
 

@@ -2,6 +2,7 @@
 use Rattle.std.specs.Prelude.{ℕ, zero, suc, Bool, ◌/◌, ◌%◌, ◌+◌, ◌==◌, nat_lt, List, [], ◌∷◌, ◌++◌, codes, slice_get, if◌then◌else◌}
 use Rattle.std.specs.List.{flat_map, sum_by, filter_map}
 use Rattle.std.specs.Fmt.{decimal}
+use Rattle.text_lines.specs.Hex.{hex, hex_digits}
 use Rattle.std.specs.declared.option.Option.{Option}
 use Rattle.std.specs.declared.option.Option.TheVariants.{None, Some}
 use Rattle.scan_bits.specs.Words.{number_of}
@@ -14,27 +15,6 @@ use Rattle.setup_document.specs.declared.plan.Place.{Place}
 use Rattle.setup_document.specs.declared.plan.Place.TheVariants as place
 use Rattle.setup_read.specs.declared.setup.SetupRefusal.{SetupRefusal}
 use Rattle.setup_read.specs.declared.setup.SetupRefusal.TheVariants as refusal
-
--- ---- numbers of base 16
-
--- a digit, in a small letter from ten on
-abbrev pub hex_digit : ℕ → ℕ
-hex_digit value = if nat_lt value 10 then 48 + value else 87 + value
-
--- so many digits of a number, the lowest last
-abbrev pub hex_digits : ℕ → ℕ → List ℕ
-hex_digits zero value = []
-hex_digits (suc count) value = hex_digits count (value / 16) ++ hex_digit (value % 16) ∷ []
-
--- digits without the zeros in front; the last digit stays
-abbrev pub without_zeros : List ℕ → List ℕ
-without_zeros [] = []
-without_zeros (digit ∷ []) = digit ∷ []
-without_zeros (digit ∷ next ∷ digits) = if digit == 48 then without_zeros (next ∷ digits) else digit ∷ next ∷ digits
-
--- a number of 64 bits
-unfoldable pub hex : ℕ → List ℕ
-hex value = without_zeros (hex_digits 16 value)
 
 -- ---- a device
 

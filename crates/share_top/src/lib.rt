@@ -3,7 +3,6 @@
 
 mod check;
 mod command;
-mod line;
 mod outcome;
 mod pipe;
 mod print;

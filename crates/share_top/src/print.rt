@@ -5,15 +5,15 @@ ghost use Rattle.base_types.specs.Tellings.{Told};
 ghost use Rattle.scan_bits.specs.Words.{bits_of, number_of};
 ghost use Rattle.grant_table.specs.Layouts.{group_of};
 ghost use Rattle.share_top.specs.Checks as checks;
-ghost use Rattle.share_top.specs.Checks.{hex, hex_digits, idcode_text, group_bits};
+ghost use Rattle.share_top.specs.Checks.{idcode_text, group_bits};
+ghost use Rattle.text_lines.specs.Hex.{hex, hex_digits};
 ghost use Rattle.text_lines.specs.Printed.{Prints};
 
-use crate::line::{push_hex, push_hex_digits};
 use base_types::Text;
 use grant_table::{Layout, Net, Protocol};
 use part_model::Part;
 use ports::{PortFault, Sink};
-use text_lines::{Line, push_number, push_text, put};
+use text_lines::{Line, push_hex, push_hex_digits, push_number, push_text, put};
 
 // What stands before a device's name.
 fn device_head(number: u64) -> Line

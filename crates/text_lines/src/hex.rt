@@ -1,8 +1,8 @@
 // Numbers of base 16 in a line.
 ghost use Rattle.std.specs.Prelude.{◌≡◌, ◌≤◌, ◌<◌, ◌+◌, ◌*◌, ◌++◌, ◌∷◌, [], length};
-ghost use Rattle.share_top.specs.Checks.{hex_digit, hex_digits, without_zeros, hex};
+ghost use Rattle.text_lines.specs.Hex.{hex_digit, hex_digits, without_zeros, hex};
 
-use text_lines::{Line, push_text};
+use crate::{Line, push_text};
 
 // A digit of base 16.
 fn hex_digit(value: u8) -> u8

@@ -1,5 +1,5 @@
 use Rattle.std.proofs.Common.{length}
-use Rattle.share_top.proofs.line.+without_zeros.Given as goal
+use Rattle.text_lines.proofs.hex.+without_zeros.Given as goal
 
 abbrev pub decreases-without_zeros : goal.decreases-without_zeros
 decreases-without_zeros l = length l.digits.now

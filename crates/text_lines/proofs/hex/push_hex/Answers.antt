@@ -1,7 +1,7 @@
 use Rattle.std.proofs.Common.{refl, ◌++◌, ◌∙◌, ap}
-use Rattle.share_top.specs.Checks.{without_zeros, hex_digits}
-use Rattle.share_top.proofs.HexLaws.{hex_pushed}
-use Rattle.share_top.proofs.line.push_hex.Goals as goal
+use Rattle.text_lines.specs.Hex.{without_zeros, hex_digits}
+use Rattle.text_lines.proofs.Digits.{hex_pushed}
+use Rattle.text_lines.proofs.hex.push_hex.Goals as goal
 
 pub returns-clause-is : goal.returns-clause-is
 returns-clause-is c =

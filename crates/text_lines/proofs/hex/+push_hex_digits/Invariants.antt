@@ -1,4 +1,4 @@
-use Rattle.share_top.proofs.line.+push_hex_digits.Given as goal
+use Rattle.text_lines.proofs.hex.+push_hex_digits.Given as goal
 
 abbrev pub decreases-push_hex_digits : goal.decreases-push_hex_digits
 decreases-push_hex_digits l = l.count

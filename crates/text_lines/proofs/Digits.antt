@@ -1,6 +1,6 @@
 -- Numbers of base 16.
 use Rattle.std.proofs.Common.{◌≡◌, ℕ, List, ◌++◌, ap, ◌∙◌}
-use Rattle.share_top.specs.Checks.{hex_digits, without_zeros, hex}
+use Rattle.text_lines.specs.Hex.{hex_digits, without_zeros, hex}
 
 pub hex_pushed : (line text digits shown one two : List ℕ) (count number : ℕ) → count ≡ 16 → digits ≡ hex_digits count number → one ≡ line ++ text → shown ≡ without_zeros digits → two ≡ one ++ shown → two ≡ (line ++ text) ++ hex number
 unfolding hex
