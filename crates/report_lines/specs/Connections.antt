@@ -1,8 +1,7 @@
 -- What is told of a connection at the end of a replay.
 use Rattle.std.specs.Prelude.{ℕ, List, [], ◌∷◌, ◌++◌, codes}
-use Rattle.std.specs.List.{flat_map}
 use Rattle.std.specs.Fmt.{decimal}
-use Rattle.text_lines.specs.Hex.{hex_digits}
+use Rattle.text_lines.specs.Hex.{hex_bytes}
 use Rattle.report_lines.specs.declared.connections.Standing.{Standing}
 use Rattle.report_lines.specs.declared.connections.Standing.TheVariants.{Live, Waits, Away, Ended}
 use Rattle.report_lines.specs.Ends.{end_text}
@@ -24,11 +23,7 @@ standing_text Waits = codes "waits"
 standing_text Away = codes "away"
 standing_text (Ended end) = end_text end
 
--- bytes in base 16, two digits each
-abbrev pub hex_bytes : List ℕ → List ℕ
-hex_bytes bytes = flat_map (hex_digits 2) bytes
-
--- the same, and a dash where there are none
+-- bytes in base 16, two digits each, and a dash where there are none
 abbrev pub bytes_text : List ℕ → List ℕ
 bytes_text [] = codes "-"
 bytes_text (byte ∷ bytes) = hex_bytes (byte ∷ bytes)

@@ -1,13 +1,14 @@
 // What is told of a connection at the end of a replay.
 ghost use Rattle.std.specs.Prelude.{◌≡◌, ◌≤◌, ◌+◌, ◌++◌, length};
-ghost use Rattle.report_lines.specs.Connections.{bytes_text, connection_head, connection_line, connection_tail, hex_bytes, standing_text};
+ghost use Rattle.report_lines.specs.Connections.{bytes_text, connection_head, connection_line, connection_tail, standing_text};
+ghost use Rattle.text_lines.specs.Hex.{hex_bytes};
 ghost use Rattle.text_lines.specs.Printed.{Prints};
 
 use crate::ends::push_end;
 use client_session::End;
 use ports::{PortFault, Sink};
 use std::marker::Model;
-use text_lines::{Line, push_hex_digits, push_number, push_text, put, text_line};
+use text_lines::{Line, push_hex_bytes, push_number, push_text, put, text_line};
 
 /// How a connection stands.
 #[derive(Clone, Copy, Debug, Drop, PartialEq, Eq)]
@@ -90,9 +91,7 @@ fn hex_line(bytes: &[u8]) -> Line
     ensures { result.items ≡ hex_bytes bytes.now }
 {
     let mut line = Line::new();
-    for byte in bytes {
-        push_hex_digits(&mut line, 2, u64::from(*byte));
-    }
+    push_hex_bytes(&mut line, bytes);
     line
 }
 

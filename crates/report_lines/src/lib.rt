@@ -4,6 +4,8 @@
 mod connections;
 mod devices;
 mod ends;
+#[cfg(test)]
+mod tests;
 
 pub use connections::{Connection, Standing, put_connection};
 pub use devices::{put_counts, put_latch};

@@ -1,5 +1,6 @@
 -- Numbers of base 16.
 use Rattle.std.specs.Prelude.{ℕ, zero, suc, ◌/◌, ◌%◌, ◌+◌, ◌==◌, nat_lt, List, [], ◌∷◌, ◌++◌, if◌then◌else◌}
+use Rattle.std.specs.List.{flat_map}
 
 -- a digit, in a small letter from ten on
 abbrev pub hex_digit : ℕ → ℕ
@@ -19,3 +20,7 @@ without_zeros (digit ∷ next ∷ digits) = if digit == 48 then without_zeros (n
 -- a number of 64 bits
 unfoldable pub hex : ℕ → List ℕ
 hex value = without_zeros (hex_digits 16 value)
+
+-- bytes, two digits each
+abbrev pub hex_bytes : List ℕ → List ℕ
+hex_bytes bytes = flat_map (hex_digits 2) bytes

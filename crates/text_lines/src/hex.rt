@@ -1,6 +1,6 @@
 // Numbers of base 16 in a line.
 ghost use Rattle.std.specs.Prelude.{◌≡◌, ◌≤◌, ◌<◌, ◌+◌, ◌*◌, ◌++◌, ◌∷◌, [], length};
-ghost use Rattle.text_lines.specs.Hex.{hex_digit, hex_digits, without_zeros, hex};
+ghost use Rattle.text_lines.specs.Hex.{hex_digit, hex_digits, without_zeros, hex, hex_bytes};
 
 use crate::{Line, push_text};
 
@@ -49,4 +49,15 @@ pub fn push_hex(line: &mut Line, text: &[u8], number: u64)
     push_hex_digits(&mut digits, 16, number);
     push_text(line, text);
     push_text(line, without_zeros(&digits));
+}
+
+/// Puts bytes behind the line, two digits of base 16 each, in small letters.
+pub fn push_hex_bytes(line: &mut Line, bytes: &[u8])
+    requires { length line.old.items + 2 * length bytes.now ≤ 1024 }
+    ensures is { line.new.items ≡ line.old.items ++ hex_bytes bytes.now }
+    ensures room { length line.new.items ≡ length line.old.items + 2 * length bytes.now }
+{
+    for byte in bytes {
+        push_hex_digits(line, 2, u64::from(*byte));
+    }
 }

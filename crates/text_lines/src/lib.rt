@@ -8,7 +8,7 @@ ghost use Rattle.text_lines.specs.Printed.{Prints};
 mod hex;
 
 use arrayvec::ArrayVec;
-pub use hex::{push_hex, push_hex_digits};
+pub use hex::{push_hex, push_hex_bytes, push_hex_digits};
 use ports::{PortFault, Sink, write_all};
 
 /// A line, or a piece of one, of at most 1,024 bytes.

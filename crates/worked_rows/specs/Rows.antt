@@ -8,7 +8,7 @@ use Rattle.wire_port.specs.Offers.ScriptLine.{Open, Send, Drop, Room}
 use Rattle.worked_rows.specs.Inputs.{hex, read_id, write_user, hold_user, finish_scan, scan_twice, three_bits}
 use Rattle.worked_rows.specs.Settings.{one, two, mixed, three}
 use Rattle.worked_rows.specs.Shown.{device, connection}
-use Rattle.worked_rows.specs.Shown.Standing.{Live, Waits, Away, Ended}
+use Rattle.report_lines.specs.declared.connections.Standing.TheVariants.{Live, Waits, Away, Ended}
 use Rattle.worked_rows.specs.Replays.{Row}
 
 -- both connections write USER of their own device, in turns, and nobody waits

@@ -5,7 +5,8 @@ use Rattle.std.specs.declared.option.Option.{Option}
 use Rattle.std.specs.declared.option.Option.TheVariants.{None, Some}
 use Rattle.scan_bits.specs.Words.{number_of}
 use Rattle.chain_model.specs.Chains.{Content}
-use Rattle.client_session.specs.declared.End.{End}
+use Rattle.report_lines.specs.declared.connections.Standing.{Standing}
+use Rattle.report_lines.specs.declared.connections.Standing.TheVariants.{Live, Waits, Away, Ended}
 use Rattle.wire_port.specs.Steps.{taken_from}
 use Rattle.wire_port.specs.Offers.{Peer}
 use Rattle.plays.specs.Plays.{Setting, Play, SessionEnd, seat_at, is_waiting, live_grant}
@@ -30,13 +31,6 @@ device_shown content = device content.captures content.updates (number_of conten
 -- the shared chain's devices from TDI on, as the play has them
 abbrev pub devices_shown : Setting → Play → List DeviceShown
 devices_shown setting play = map device_shown (contents setting play)
-
--- how a connection stands: its session is live or waits, it was turned away, or its session ended
-pub data Standing : Type 0 where
-  Live : Standing
-  Waits : Standing
-  Away : Standing
-  Ended : (end : End) → Standing
 
 -- a connection: the grant that admitted it, counted from 1, or 0; how many bytes were taken from it, what its session replied,
 -- how much of that its peer was given, and how it stands

@@ -1,4 +1,4 @@
-use Rattle.std.proofs.Common.{refl, ◌++◌, ◌∙◌, ap, codes}
+use Rattle.std.proofs.Common.{refl, ◌++◌, ◌∙◌, ap}
 use Rattle.text_lines.proofs.Printing.{printing_starts, printing_more, printing_fails, printing_last}
 use Rattle.report_lines.specs.Connections.{bytes_text, connection_head, connection_line, connection_tail}
 use Rattle.report_lines.proofs.connections.put_connection.Goals as goal

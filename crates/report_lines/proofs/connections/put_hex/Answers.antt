@@ -1,5 +1,5 @@
-use Rattle.std.proofs.Common.{◌∙◌, sym, ap, ◌++◌, take-append-drop}
-use Rattle.report_lines.specs.Connections.{hex_bytes}
+use Rattle.std.proofs.Common.{◌∙◌, ◌++◌, take-append-drop}
+use Rattle.text_lines.specs.Hex.{hex_bytes}
 use Rattle.report_lines.proofs.Hexes.{hex_parts}
 use Rattle.text_lines.proofs.Printing.{printing_fails, printing_more}
 use Rattle.report_lines.proofs.connections.put_hex.Goals as goal

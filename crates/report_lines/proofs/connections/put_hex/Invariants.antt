@@ -1,5 +1,5 @@
 use Rattle.std.proofs.Common.{length}
-use Rattle.report_lines.specs.Connections.{hex_bytes}
+use Rattle.text_lines.specs.Hex.{hex_bytes}
 use Rattle.text_lines.proofs.Printing.{Printing}
 use Rattle.report_lines.proofs.connections.put_hex.Given as goal
 

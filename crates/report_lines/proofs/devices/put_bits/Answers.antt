@@ -1,4 +1,4 @@
-use Rattle.std.proofs.Common.{arith, ℕ, ◌+◌, ◌-◌, ◌/◌, ◌%◌, ◌*◌, ◌^◌, ◌++◌, ◌∙◌, ap}
+use Rattle.std.proofs.Common.{arith, ◌+◌, ◌-◌, ◌/◌, ◌%◌, ◌*◌, ◌^◌, ◌∙◌}
 use Rattle.scan_bits.specs.Words.{number_of}
 use Rattle.text_lines.specs.Hex.{hex_digits}
 use Rattle.text_lines.proofs.Printing.{printing_fails, printing_more}

@@ -1,6 +1,6 @@
-use Rattle.std.proofs.Common.{refl, ◌++◌, ◌∙◌, ap, codes}
+use Rattle.std.proofs.Common.{refl, ◌++◌, ◌∙◌}
 use Rattle.text_lines.proofs.Printing.{printing_starts, printing_more, printing_fails, printing_last}
-use Rattle.report_lines.specs.Devices.{bits_text, latch_head, latch_line, value_text}
+use Rattle.report_lines.specs.Devices.{latch_head, latch_line, value_text}
 use Rattle.report_lines.proofs.devices.put_latch.Goals as goal
 
 pub returns-in_err-put : goal.returns-in_err-put

@@ -1,4 +1,4 @@
-use Rattle.std.proofs.Common.{refl, ◌++◌, ◌∙◌, ap, codes}
+use Rattle.std.proofs.Common.{refl, ◌++◌, codes}
 use Rattle.text_lines.proofs.Printing.{printing_starts, printing_more, printing_fails, printing_last}
 use Rattle.report_lines.specs.Devices.{bits_text, value_text}
 use Rattle.report_lines.proofs.devices.put_value.Goals as goal
